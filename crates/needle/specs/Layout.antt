@@ -1,0 +1,13 @@
+-- How long an item of a volume is.
+use Rattle.std.specs.Prelude.{ℕ, ◌+◌, ◌-◌, ◌*◌, ◌/◌, ◌%◌}
+use Rattle.needle.specs.declared.version.Version.{Version}
+use Rattle.needle.specs.declared.version.Version.TheVariants.{V2, V3}
+
+-- Bytes around the parts that `size` counts: cookie, key, size and checksum; from version 3 on the append time.
+abbrev pub frame_len : Version → ℕ
+frame_len V2 = 20
+frame_len V3 = 28
+
+-- The item with its 1 to 8 bytes of padding, to a multiple of 8.
+abbrev pub padded : Version → ℕ → ℕ
+padded version size = (size + frame_len version) / 8 * 8 + 8

@@ -1,0 +1,6 @@
+//! Needles: the items of a volume's file, and how they are laid out.
+#![tactic(auto)]
+
+mod version;
+
+pub use version::{Version, padded_len};

@@ -1,0 +1,5 @@
+pub mod Told
+pub mod Moments
+pub mod FileName
+pub mod Files
+pub mod Path

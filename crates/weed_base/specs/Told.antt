@@ -1,0 +1,43 @@
+-- What an object of the outside tells of its contents, and how it counts its faults.
+-- An object that is told gives its contents as `Some`, one that isn't gives `None`. A clause on contents
+-- holds where they are told, and a clause on causes always.
+use Rattle.std.specs.Prelude.{◌≡◌, ℕ, ◌+◌, ◌-◌, ◌^◌, ◌≤◌, ◌<◌, min, List, [], ◌++◌, length, take, ⊤, None, Some, MatchResult, OnErr, Option, Result}
+use Rattle.std.specs.Option.{option_map}
+
+-- The count went up, or stands at the end of its type, where it stays.
+abbrev pub Rose : ℕ → ℕ → Type 0
+Rose before now = min (before + 1) (2 ^ 64 - 1) ≤ now
+
+-- The count never falls, and an error comes only where it rose in this call.
+pub record HasCause {T E : Type 0} (before now : ℕ) (result : Result T E) : Type 0 where
+  pub later : before ≤ now
+  pub failed : OnErr result (Rose before now)
+
+-- The same of one error among several.
+pub record IsCauseOf (before now : ℕ) (Fault : Type 0) : Type 0 where
+  pub later : before ≤ now
+  pub failed : Fault → Rose before now
+
+-- What was left began with these bytes, and has lost them.
+abbrev pub Consumes : Option (List ℕ) → Option (List ℕ) → List ℕ → Type 0
+Consumes old new bytes = old ≡ option_map (λ left. bytes ++ left) new
+
+-- Nothing is left.
+abbrev pub IsAtEnd : Option (List ℕ) → Type 0
+IsAtEnd left = left ≡ option_map (λ _. []) left
+
+-- What was written has grown by these bytes.
+abbrev pub Appends : Option (List ℕ) → Option (List ℕ) → List ℕ → Type 0
+Appends old new bytes = new ≡ option_map (λ written. written ++ bytes) old
+
+-- A read took the bytes that it gave, none only at the end or with no room, and nothing where it failed.
+abbrev pub Reads : {E : Type 0} → Option (List ℕ) → Option (List ℕ) → Result ℕ E → List ℕ → Type 0
+Reads old new result room =
+    MatchResult result
+      (λ n. (n ≤ length room) × Consumes old new (take n room) × (n ≡ 0 → 0 < length room → IsAtEnd new))
+      (λ _. new ≡ old)
+
+-- A write took so many first bytes of the piece, and nothing where it failed.
+abbrev pub Writes : {E : Type 0} → Option (List ℕ) → Option (List ℕ) → Result ℕ E → List ℕ → Type 0
+Writes old new result piece =
+    MatchResult result (λ n. (n ≤ length piece) × Appends old new (take n piece)) (λ _. new ≡ old)

@@ -1,0 +1,147 @@
+ghost use Rattle.std.specs.Prelude.{◌≡◌, ◌≤◌, ◌⊎◌, List, ℕ, Bool, false, Option, IfSome, IfOk, IsErrOf, MatchResult, length, take, drop, min};
+ghost use Rattle.std.specs.Option.{option_map};
+ghost use Rattle.std.specs.FinMap.{get, keys};
+ghost use Rattle.weed_base.specs.Told.{Writes, HasCause, IsCauseOf};
+ghost use Rattle.weed_base.specs.Files.{Files, IsWithin, IsThere, written, cut_to, made, removed, renamed, content, MayWrite, BothTold, Changes, ReadsAt, MayBeNamed};
+ghost use Rattle.weed_base.specs.declared.disk.NamesFault.TheVariants.{Memory};
+
+use crate::bytes::Word;
+use crate::file_name::FileName;
+use crate::items::Items;
+use crate::source::Failed;
+use std::alloc::{AllocError, AllocFailed, Global};
+use thiserror::Error;
+
+/// Why a disk gave no names.
+#[derive(Clone, Copy, Debug, PartialEq, Eq, Error)]
+pub enum NamesFault {
+    #[error("a call of the disk failed")]
+    Failed,
+    #[error("out of memory")]
+    Memory,
+}
+
+impl From<AllocError> for NamesFault {
+    ghost from_gives = { λ _ fault. fault ≡ Memory };
+
+    fn from(_: AllocError) -> Self {
+        NamesFault::Memory
+    }
+}
+
+impl<T: Drop> From<AllocFailed<T>> for NamesFault {
+    ghost from_gives = { λ _ fault. fault ≡ Memory };
+
+    fn from(_: AllocFailed<T>) -> Self {
+        NamesFault::Memory
+    }
+}
+
+/// A set of named files. What is sent over a disk that is a host's stands beside them, and no call of a
+/// disk changes it.
+pub trait Disk {
+    /// The disk has only files whose names begin with `marks.`.
+    const MARKS_ONLY: bool;
+
+    ghost MARKS_ONLY: { Bool };
+
+    /// What reads give, where told.
+    ghost files: { Self → Option Files };
+
+    /// How many calls failed.
+    ghost faults: { Self → ℕ };
+
+    /// The bytes sent, where told.
+    ghost sent: { Self → Option (List ℕ) };
+
+    /// How many sends failed.
+    ghost send_faults: { Self → ℕ };
+
+    /// Turns to the directory at that place, which the real form makes where it isn't there. Memory forms
+    /// stay as they are.
+    fn attach(&mut self, place: &Word) -> Result<(), Failed>
+        ensures files { files self.new ≡ files self.old }
+        ensures cause { HasCause (faults self.old) (faults self.new) result }
+        ensures sent { (sent self.new ≡ sent self.old) × (send_faults self.new ≡ send_faults self.old) };
+
+    /// All names, in byte order.
+    fn names(&mut self, alloc: Global) -> Result<Items<FileName>, NamesFault>
+        ensures names { IfOk result (λ names. IfSome (files self.old) (λ told. names ≡ keys told)) }
+        ensures files { files self.new ≡ files self.old }
+        ensures cause { IsCauseOf (faults self.old) (faults self.new) (IsErrOf result NamesFault.Failed) }
+        ensures sent { (sent self.new ≡ sent self.old) × (send_faults self.new ≡ send_faults self.old) };
+
+    /// The length of a file in bytes; `None` exactly where it isn't there.
+    fn size(&mut self, name: &FileName) -> Result<Option<u64>, Failed>
+        ensures size { IfOk result (λ size. IfSome (files self.old) (λ told. size ≡ option_map length (get told name.now))) }
+        ensures files { files self.new ≡ files self.old }
+        ensures cause { HasCause (faults self.old) (faults self.new) result }
+        ensures sent { (sent self.new ≡ sent self.old) × (send_faults self.new ≡ send_faults self.old) };
+
+    /// Puts the file's bytes from `at` on into the front of `room`, as many as there are and fit, and
+    /// answers how many; none where the file isn't there.
+    fn read_at(&mut self, name: &FileName, at: u64, room: &mut [u8]) -> Result<usize, Failed>
+        ensures bound { IfOk result (λ count. count ≤ length room.new) }
+        ensures bytes { IfOk result (λ count. IfSome (files self.old) (λ told. ReadsAt (content told name.now) at count room.new)) }
+        ensures files { files self.new ≡ files self.old }
+        ensures cause { HasCause (faults self.old) (faults self.new) result }
+        ensures sent { (sent self.new ≡ sent self.old) × (send_faults self.new ≡ send_faults self.old) };
+
+    /// Writes the piece over what is there, and past the end. A write whose end would pass 2^63 - 1 fails.
+    /// After a failure its range may hold anything.
+    fn write_at(&mut self, name: &FileName, at: u64, piece: &[u8]) -> Result<(), Failed>
+        requires { IfSome (files self.old) (IsWithin name.now at) }
+        ensures files { MatchResult result
+            (λ _. files self.new ≡ option_map (written name.now at piece.now) (files self.old))
+            (λ _. BothTold (MayWrite name.now at piece.now) (files self.old) (files self.new)) }
+        ensures cause { HasCause (faults self.old) (faults self.new) result }
+        ensures sent { (sent self.new ≡ sent self.old) × (send_faults self.new ≡ send_faults self.old) };
+
+    /// Cuts a file to a length. After a failure it reads as before or as after.
+    fn cut(&mut self, name: &FileName, to: u64) -> Result<(), Failed>
+        requires { IfSome (files self.old) (IsWithin name.now to) }
+        ensures files { Changes (cut_to name.now to) (files self.old) (files self.new) result }
+        ensures cause { HasCause (faults self.old) (faults self.new) result }
+        ensures sent { (sent self.new ≡ sent self.old) × (send_faults self.new ≡ send_faults self.old) };
+
+    /// Makes the file, there and empty. After a failure it reads as before or as after.
+    fn make(&mut self, name: &FileName) -> Result<(), Failed>
+        requires { MayBeNamed MARKS_ONLY name.now }
+        ensures files { Changes (made name.now) (files self.old) (files self.new) result }
+        ensures cause { HasCause (faults self.old) (faults self.new) result }
+        ensures sent { (sent self.new ≡ sent self.old) × (send_faults self.new ≡ send_faults self.old) };
+
+    /// Removes the file, where it is there. After a failure it reads as before or as after.
+    fn remove(&mut self, name: &FileName) -> Result<(), Failed>
+        ensures files { Changes (removed name.now) (files self.old) (files self.new) result }
+        ensures cause { HasCause (faults self.old) (faults self.new) result }
+        ensures sent { (sent self.new ≡ sent self.old) × (send_faults self.new ≡ send_faults self.old) };
+
+    /// Renames a file, which takes the place of what had the new name. After a failure both names read as
+    /// before or as after.
+    fn rename(&mut self, from: &FileName, to: &FileName) -> Result<(), Failed>
+        requires there { IfSome (files self.old) (IsThere from.now) }
+        requires named { MayBeNamed MARKS_ONLY to.now }
+        ensures files { Changes (renamed from.now to.now) (files self.old) (files self.new) result }
+        ensures cause { HasCause (faults self.old) (faults self.new) result }
+        ensures sent { (sent self.new ≡ sent self.old) × (send_faults self.new ≡ send_faults self.old) };
+
+    /// Settles all files and names.
+    fn sync(&mut self) -> Result<(), Failed>
+        ensures files { files self.new ≡ files self.old }
+        ensures cause { HasCause (faults self.old) (faults self.new) result }
+        ensures sent { (sent self.new ≡ sent self.old) × (send_faults self.new ≡ send_faults self.old) };
+}
+
+/// A disk with a way out: what a command answers goes through it, so that a disk can tell what was on it
+/// when a piece went out.
+pub trait Host: Disk {
+    /// Sends first bytes of the piece, and answers how many, as a sink does.
+    fn send(&mut self, piece: &[u8]) -> Result<usize, Failed>
+        ensures bytes { Writes (Self.sent self.old) (Self.sent self.new) result piece.now }
+        ensures cause { HasCause (Self.send_faults self.old) (Self.send_faults self.new) result }
+        ensures disk { (Self.files self.new ≡ Self.files self.old) × (Self.faults self.new ≡ Self.faults self.old) };
+
+    /// A host has files of any name.
+    ghost whole: { Self.MARKS_ONLY ≡ false };
+}

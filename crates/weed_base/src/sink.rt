@@ -1,0 +1,19 @@
+ghost use Rattle.std.specs.Prelude.{◌≡◌, List, ℕ, Option};
+ghost use Rattle.weed_base.specs.Told.{Writes, HasCause};
+
+use crate::source::Failed;
+
+/// What bytes are written to.
+pub trait Sink {
+    /// The bytes written, where told.
+    ghost written: { Self → Option (List ℕ) };
+
+    /// How many writes failed.
+    ghost faults: { Self → ℕ };
+
+    /// Writes first bytes of the piece, and answers how many. A sink that takes nothing of a piece that
+    /// isn't empty counts as failed for its caller.
+    fn write(&mut self, piece: &[u8]) -> Result<usize, Failed>
+        ensures bytes { Writes (written self.old) (written self.new) result piece.now }
+        ensures cause { HasCause (faults self.old) (faults self.new) result };
+}
