@@ -1,7 +1,7 @@
 -- What an object of the outside tells of its contents, and how it counts its faults.
 -- An object that is told gives its contents as `Some`, one that isn't gives `None`. A clause on contents
 -- holds where they are told, and a clause on causes always.
-use Rattle.std.specs.Prelude.{◌≡◌, ℕ, ◌+◌, ◌-◌, ◌^◌, ◌≤◌, ◌<◌, min, List, [], ◌++◌, length, take, ⊤, None, Some, MatchResult, OnErr, Option, Result}
+use Rattle.std.specs.Prelude.{◌≡◌, ℕ, ◌+◌, ◌-◌, ◌^◌, ◌≤◌, ◌<◌, min, List, [], ◌++◌, length, take, ⊤, None, Some, Ok, MatchResult, OnErr, Option, Result}
 use Rattle.std.specs.Option.{option_map}
 
 -- The count went up, or stands at the end of its type, where it stays.
@@ -17,6 +17,12 @@ pub record HasCause {T E : Type 0} (before now : ℕ) (result : Result T E) : Ty
 pub record IsCauseOf (before now : ℕ) (Fault : Type 0) : Type 0 where
   pub later : before ≤ now
   pub failed : Fault → Rose before now
+
+-- The same of a write, where taking nothing of a piece that isn't empty counts as a failed call too.
+pub record HasWriteCause {E : Type 0} (before now : ℕ) (result : Result ℕ E) (piece : List ℕ) : Type 0 where
+  pub later : before ≤ now
+  pub failed : OnErr result (Rose before now)
+  pub idle : result ≡ Ok 0 → 0 < length piece → Rose before now
 
 -- What was left began with these bytes, and has lost them.
 abbrev pub Consumes : Option (List ℕ) → Option (List ℕ) → List ℕ → Type 0

@@ -1,7 +1,7 @@
 ghost use Rattle.std.specs.Prelude.{◌≡◌, ◌≤◌, ◌⊎◌, List, ℕ, Bool, false, Option, IfSome, IfOk, IsErrOf, MatchResult, length, take, drop, min};
 ghost use Rattle.std.specs.Option.{option_map};
 ghost use Rattle.std.specs.FinMap.{get, keys};
-ghost use Rattle.weed_base.specs.Told.{Writes, HasCause, IsCauseOf};
+ghost use Rattle.weed_base.specs.Told.{Writes, HasCause, HasWriteCause, IsCauseOf};
 ghost use Rattle.weed_base.specs.Files.{Files, IsWithin, IsThere, written, cut_to, made, removed, renamed, content, MayWrite, BothTold, Changes, ReadsAt, MayBeNamed};
 ghost use Rattle.weed_base.specs.declared.disk.NamesFault.TheVariants.{Memory};
 
@@ -139,7 +139,7 @@ pub trait Host: Disk {
     /// Sends first bytes of the piece, and answers how many, as a sink does.
     fn send(&mut self, piece: &[u8]) -> Result<usize, Failed>
         ensures bytes { Writes (Self.sent self.old) (Self.sent self.new) result piece.now }
-        ensures cause { HasCause (Self.send_faults self.old) (Self.send_faults self.new) result }
+        ensures cause { HasWriteCause (Self.send_faults self.old) (Self.send_faults self.new) result piece.now }
         ensures disk { (Self.files self.new ≡ Self.files self.old) × (Self.faults self.new ≡ Self.faults self.old) };
 
     /// A host has files of any name.

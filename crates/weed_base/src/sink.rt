@@ -1,5 +1,5 @@
 ghost use Rattle.std.specs.Prelude.{◌≡◌, List, ℕ, Option};
-ghost use Rattle.weed_base.specs.Told.{Writes, HasCause};
+ghost use Rattle.weed_base.specs.Told.{Writes, HasWriteCause};
 
 use crate::source::Failed;
 
@@ -11,9 +11,9 @@ pub trait Sink {
     /// How many writes failed.
     ghost faults: { Self → ℕ };
 
-    /// Writes first bytes of the piece, and answers how many. A sink that takes nothing of a piece that
-    /// isn't empty counts as failed for its caller.
+    /// Writes first bytes of the piece, and answers how many. Taking nothing of a piece that isn't empty
+    /// counts as a failed write.
     fn write(&mut self, piece: &[u8]) -> Result<usize, Failed>
         ensures bytes { Writes (written self.old) (written self.new) result piece.now }
-        ensures cause { HasCause (faults self.old) (faults self.new) result };
+        ensures cause { HasWriteCause (faults self.old) (faults self.new) result piece.now };
 }
