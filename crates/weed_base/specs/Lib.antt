@@ -3,3 +3,8 @@ pub mod Moments
 pub mod FileName
 pub mod Files
 pub mod Path
+pub mod Calls
+pub mod MemForms
+pub mod PathFaults
+pub mod NamedBytes
+pub mod RealForms

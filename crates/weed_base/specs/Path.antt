@@ -1,5 +1,6 @@
 -- Paths: lists of parts, and the one text of each.
-use Rattle.std.specs.Prelude.{◌≡◌, ◌≢◌, ℕ, ◌≤◌, ◌<◌, List, [], ◌∷◌, ◌++◌, length, All, codes}
+use Rattle.std.specs.Prelude.{◌≡◌, ◌≢◌, ℕ, ◌≤◌, ◌<◌, List, [], ◌∷◌, ◌++◌, length, take, drop, All, Option, None, Some, codes, bytes_eq, if◌then◌else◌, ◌==◌}
+use Rattle.std.specs.List.{slice_split}
 use Rattle.std.specs.Str.{IsUtf8}
 
 -- A part: 1 to 255 bytes without a slash, and neither `.` nor `..`
@@ -27,6 +28,19 @@ pub record IsPath (parts : List (List ℕ)) : Type 0 where
   pub short : length (text_of parts) ≤ 4096
   pub no_zero : All (λ b. b ≢ 0) (text_of parts)
   pub utf8 : IsUtf8 (text_of parts)
+
+-- What stands behind each slash of a text, up to the next one
+abbrev pub parts_of : List ℕ → List (List ℕ)
+parts_of text = drop 1 (slice_split (λ b. b == 47) text)
+
+-- The parts of a text that is read; a lone slash has none.
+abbrev pub parts_in : List ℕ → List (List ℕ)
+parts_in text = if bytes_eq text (codes "/") then [] else parts_of text
+
+-- The path without its last part; the root has none.
+abbrev pub parent_of : List (List ℕ) → Option (List (List ℕ))
+parent_of [] = None
+parent_of (part ∷ parts) = Some (take (length parts) (part ∷ parts))
 
 -- A path is below another that is a proper prefix of it.
 abbrev pub IsBelow : List (List ℕ) → List (List ℕ) → Type 0

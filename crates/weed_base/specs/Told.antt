@@ -1,12 +1,16 @@
 -- What an object of the outside tells of its contents, and how it counts its faults.
 -- An object that is told gives its contents as `Some`, one that isn't gives `None`. A clause on contents
 -- holds where they are told, and a clause on causes always.
-use Rattle.std.specs.Prelude.{◌≡◌, ℕ, ◌+◌, ◌-◌, ◌^◌, ◌≤◌, ◌<◌, min, List, [], ◌++◌, length, take, ⊤, None, Some, Ok, MatchResult, OnErr, Option, Result}
+use Rattle.std.specs.Prelude.{◌≡◌, ℕ, ◌+◌, ◌-◌, ◌^◌, ◌≤◌, ◌<◌, min, List, [], ◌++◌, length, take, Ok, MatchResult, OnErr, Option, Result}
 use Rattle.std.specs.Option.{option_map}
 
--- The count went up, or stands at the end of its type, where it stays.
+-- The count after one more. It stays at the end of its type.
+abbrev pub raised : ℕ → ℕ
+raised count = min (count + 1) (2 ^ 64 - 1)
+
+-- The count went up, or stands at the end of its type.
 abbrev pub Rose : ℕ → ℕ → Type 0
-Rose before now = min (before + 1) (2 ^ 64 - 1) ≤ now
+Rose before now = raised before ≤ now
 
 -- The count never falls, and an error comes only where it rose in this call.
 pub record HasCause {T E : Type 0} (before now : ℕ) (result : Result T E) : Type 0 where
@@ -40,8 +44,8 @@ Appends old new bytes = new ≡ option_map (λ written. written ++ bytes) old
 abbrev pub Reads : {E : Type 0} → Option (List ℕ) → Option (List ℕ) → Result ℕ E → List ℕ → Type 0
 Reads old new result room =
     MatchResult result
-      (λ n. (n ≤ length room) × Consumes old new (take n room) × (n ≡ 0 → 0 < length room → IsAtEnd new))
-      (λ _. new ≡ old)
+    (λ n. (n ≤ length room) × Consumes old new (take n room) × (n ≡ 0 → 0 < length room → IsAtEnd new))
+    (λ _. new ≡ old)
 
 -- A write took so many first bytes of the piece, and nothing where it failed.
 abbrev pub Writes : {E : Type 0} → Option (List ℕ) → Option (List ℕ) → Result ℕ E → List ℕ → Type 0

@@ -46,6 +46,14 @@ impl<K> Text<K> {
         self.bytes.as_slice()
     }
 
+    /// The `Vec` that holds them. Takes no memory.
+    pub fn into_vec(self) -> Vec<u8>
+        ensures { result.items ≡ self }
+    {
+        let Text { bytes, .. } = self;
+        bytes
+    }
+
     /// The same bytes again.
     pub fn copy(&self, alloc: Global) -> Result<Self, AllocError>
         ensures { IfOk result (λ made. made ≡ self.now) }
@@ -56,23 +64,23 @@ impl<K> Text<K> {
 
 /// Of a word of a command line.
 #[derive(Debug, Drop)]
-pub enum WordKind {}
+pub struct WordKind;
 
 /// Of a name in a directory.
 #[derive(Debug, Drop)]
-pub enum NameKind {}
+pub struct NameKind;
 
 /// Of a media type.
 #[derive(Debug, Drop)]
-pub enum MimeKind {}
+pub struct MimeKind;
 
 /// Of no further meaning.
 #[derive(Debug, Drop)]
-pub enum PlainKind {}
+pub struct PlainKind;
 
 /// Of a payload of a log.
 #[derive(Debug, Drop)]
-pub enum LogTextKind {}
+pub struct LogTextKind;
 
 pub type Word = Text<WordKind>;
 

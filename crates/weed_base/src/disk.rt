@@ -1,4 +1,4 @@
-ghost use Rattle.std.specs.Prelude.{◌≡◌, ◌≤◌, ◌⊎◌, List, ℕ, Bool, false, Option, IfSome, IfOk, IsErrOf, MatchResult, length, take, drop, min};
+ghost use Rattle.std.specs.Prelude.{◌≡◌, ◌≤◌, ◌<◌, ◌↔◌, ◌+◌, ◌^◌, ◌⊎◌, List, ℕ, Bool, IsTrue, false, Option, IfSome, IfOk, OnOk, IsErrOf, MatchResult, length, take, drop, min};
 ghost use Rattle.std.specs.Option.{option_map};
 ghost use Rattle.std.specs.FinMap.{get, keys};
 ghost use Rattle.weed_base.specs.Told.{Writes, HasCause, HasWriteCause, IsCauseOf};
@@ -35,6 +35,13 @@ impl<T: Drop> From<AllocFailed<T>> for NamesFault {
     fn from(_: AllocFailed<T>) -> Self {
         NamesFault::Memory
     }
+}
+
+/// Whether bytes at a place end below 2^63, as all of a file must.
+pub(crate) fn ends_in_file(at: u64, count: usize) -> bool
+    ensures { IsTrue result ↔ (at + count < 2 ^ 63) }
+{
+    at < 1 << 63 && (count as u64) < (1 << 63) - at
 }
 
 /// A set of named files. What is sent over a disk that is a host's stands beside them, and no call of a
@@ -94,6 +101,7 @@ pub trait Disk {
         ensures files { MatchResult result
             (λ _. files self.new ≡ option_map (written name.now at piece.now) (files self.old))
             (λ _. BothTold (MayWrite name.now at piece.now) (files self.old) (files self.new)) }
+        ensures bound { OnOk result (at + length piece.now < 2 ^ 63) }
         ensures cause { HasCause (faults self.old) (faults self.new) result }
         ensures sent { (sent self.new ≡ sent self.old) × (send_faults self.new ≡ send_faults self.old) };
 

@@ -1,8 +1,12 @@
-ghost use Rattle.std.specs.Prelude.{◌≡◌, ◌≤◌, IsTrue, length, take};
+ghost use Rattle.std.specs.Prelude.{◌≡◌, ◌≤◌, IsTrue, Some, length, take, nat_eq, refl};
+ghost use Rattle.std.specs.Ordering.{nat_cmp};
+ghost use Rattle.std.specs.Cmp.{partial_equiv_from_equiv};
+ghost use Rattle.std.specs.Cmp.Lexicographic.{pointwise, slice_cmp, nat_list_cmp_total, nat_list_eq_equiv, texts_po, texts_ties};
 ghost use Rattle.std.specs.Option.{SomeIff};
 ghost use Rattle.std.specs.List.{list_all};
 ghost use Rattle.weed_base.specs.FileName.{is_file_byte, is_file_name};
 
+use std::cmp::Ordering;
 use std::marker::Model;
 
 const MAX_LENGTH: usize = 64;
@@ -70,11 +74,61 @@ impl FileName {
         })
     }
 
+    /// The same name again. Takes no memory.
+    pub fn copy(&self) -> FileName
+        ensures { result ≡ self.now }
+    {
+        FileName {
+            bytes: self.bytes,
+            length: self.length,
+        }
+    }
+
     /// Takes no memory.
     pub fn as_slice(&self) -> &[u8]
         ensures name { IsTrue (is_file_name self.now) }
         ensures text { result.now ≡ self.now }
     {
         &self.bytes[..self.length]
+    }
+}
+
+// Names are compared by their bytes.
+
+impl PartialEq for FileName {
+    ghost eq = { pointwise nat_eq };
+
+    ghost laws = { partial_equiv_from_equiv nat_list_eq_equiv };
+
+    fn eq(&self, other: &FileName) -> bool {
+        self.as_slice() == other.as_slice()
+    }
+}
+
+impl Eq for FileName {
+    ghost laws = { nat_list_eq_equiv };
+}
+
+impl PartialOrd for FileName {
+    ghost partial_cmp = { λ left right. Some (slice_cmp nat_cmp left right) };
+
+    ghost laws = { texts_po };
+
+    fn partial_cmp(&self, other: &FileName) -> Option<Ordering> {
+        Some(self.cmp(other))
+    }
+}
+
+impl Ord for FileName {
+    ghost cmp = { slice_cmp nat_cmp };
+
+    ghost total = { nat_list_cmp_total };
+
+    ghost matches_partial_cmp = { λ _ _. refl };
+
+    ghost matches_eq = { texts_ties };
+
+    fn cmp(&self, other: &FileName) -> Ordering {
+        self.as_slice().cmp(other.as_slice())
     }
 }

@@ -4,16 +4,32 @@
 mod bytes;
 mod clock;
 mod disk;
+mod faults;
 mod file_name;
 mod items;
+mod mem;
+mod path;
+mod path_check;
+mod path_fault;
+mod real;
 mod sink;
 mod source;
+#[cfg(test)]
+mod trials;
 
-pub use bytes::{Bytes, LogText, Mime, Name, Text, Word};
-pub use bytes::{LogTextKind, MimeKind, NameKind, PlainKind, WordKind};
+pub use bytes::{
+    Bytes, LogText, LogTextKind, Mime, MimeKind, Name, NameKind, PlainKind, Text, Word, WordKind,
+};
 pub use clock::Clock;
 pub use disk::{Disk, Host, NamesFault};
 pub use file_name::FileName;
 pub use items::Items;
+pub use mem::{MemClock, MemDisk, MemHost, MemSink, MemSource, NamedBytes};
+pub use path::Path;
+pub use path_fault::PathFault;
+pub use real::{
+    DirDisk, DirHost, ReaderSource, StandardError, StandardInput, StandardOutput, SystemClock,
+    WriterSink,
+};
 pub use sink::Sink;
 pub use source::{Failed, Source};

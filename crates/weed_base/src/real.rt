@@ -1,0 +1,14 @@
+//! The outside itself: std's streams, clock and files. These forms tell no content.
+mod clock;
+mod dir_disk;
+mod dir_host;
+mod folder;
+mod streams;
+
+pub use clock::SystemClock;
+pub use dir_disk::DirDisk;
+pub use dir_host::DirHost;
+pub use streams::{ReaderSource, StandardError, StandardInput, StandardOutput, WriterSink};
+
+#[cfg(test)]
+mod tests;

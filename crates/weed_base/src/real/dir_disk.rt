@@ -1,0 +1,180 @@
+ghost use Rattle.std.specs.Prelude.{◌≡◌, ◌≤◌, None, false, IfOk, length};
+ghost use Rattle.weed_base.specs.Told.{HasCause};
+
+use crate::bytes::Word;
+use crate::disk::{Disk, NamesFault, ends_in_file};
+use crate::faults::Faults;
+use crate::file_name::FileName;
+use crate::items::Items;
+use crate::real::folder::Folder;
+use crate::source::Failed;
+use std::alloc::{AllocGlobal, Global};
+use std::fs::File;
+use std::io;
+use std::marker::Model;
+use std::rt::Files;
+
+#[derive(Drop)]
+enum State<R> {
+    Detached,
+    Attached(Folder<R>),
+    /// A sync or an attach failed, and the system may have dropped what was written.
+    Broken,
+}
+
+impl<R: Files<File = File> + AllocGlobal + Clone + Drop> State<R> {
+    fn attached(&mut self) -> io::Result<&mut Folder<R>> {
+        match self {
+            State::Attached(folder) => Ok(folder),
+            State::Detached | State::Broken => Err(io::ErrorKind::NotConnected.into()),
+        }
+    }
+
+    /// Settles the directory that is attached, and opens another.
+    fn turn_to(&mut self, rt: &R, place: &[u8]) -> io::Result<State<R>> {
+        match self {
+            State::Detached => {}
+            State::Attached(folder) => folder.sync()?,
+            State::Broken => return Err(io::ErrorKind::NotConnected.into()),
+        }
+        Ok(State::Attached(Folder::open(rt.clone()?, place)?))
+    }
+
+    fn attach(&mut self, rt: &R, place: &[u8]) -> io::Result<()> {
+        match self.turn_to(rt, place) {
+            Ok(state) => {
+                *self = state;
+                Ok(())
+            }
+            Err(error) => {
+                *self = State::Broken;
+                Err(error)
+            }
+        }
+    }
+
+    fn sync(&mut self) -> io::Result<()> {
+        let answer = self.attached()?.sync();
+        if answer.is_err() {
+            *self = State::Broken;
+        }
+        answer
+    }
+}
+
+/// A disk over a directory of the system. Contracts see its count of faults.
+///
+/// Each call fails before it is attached, and after a sync or an attach that failed.
+#[derive(Drop)]
+pub struct DirDisk<R> {
+    rt: R,
+    state: State<R>,
+    faults: Faults,
+}
+
+impl<R> Model for DirDisk<R> {
+    ghost use Rattle.std.specs.Prelude.{ℕ};
+
+    ghost Value = { ℕ };
+
+    ghost view = { λ disk. disk.faults };
+}
+
+impl<R: Files<File = File> + AllocGlobal + Clone + Drop> DirDisk<R> {
+    pub fn new(rt: R) -> DirDisk<R>
+        ensures { result ≡ 0 }
+    {
+        DirDisk {
+            rt,
+            state: State::Detached,
+            faults: Faults::new(),
+        }
+    }
+
+    /// How many calls failed.
+    pub fn faults(&self) -> u64
+        ensures { result ≡ self.now }
+    {
+        self.faults.count()
+    }
+
+    /// Makes a call of the attached directory, and counts its fault.
+    fn call<T, F: FnOnce(&mut Folder<R>) -> io::Result<T>>(&mut self, call: F) -> Result<T, Failed>
+        requires { F.IsAlwaysCallable call }
+        ensures cause { HasCause self.old self.new result }
+    {
+        let answer = self.state.attached().and_then(call);
+        self.faults.note(answer)
+    }
+}
+
+impl<R: Files<File = File> + AllocGlobal + Clone + Drop> Disk for DirDisk<R> {
+    const MARKS_ONLY: bool = false;
+
+    ghost MARKS_ONLY = { false };
+
+    ghost files = { λ _. None };
+
+    ghost faults = { λ disk. disk };
+
+    ghost sent = { λ _. None };
+
+    ghost send_faults = { λ _. 0 };
+
+    fn attach(&mut self, place: &Word) -> Result<(), Failed> {
+        let answer = self.state.attach(&self.rt, place.as_slice());
+        self.faults.note(answer)
+    }
+
+    fn names(&mut self, alloc: Global) -> Result<Items<FileName>, NamesFault> {
+        let answer = self.state.attached().and_then(|folder| folder.names(alloc));
+        match answer {
+            Ok(names) => Ok(Items::of(names)),
+            Err(error) if error.kind() == io::ErrorKind::OutOfMemory => Err(NamesFault::Memory),
+            Err(_) => {
+                self.faults.raise();
+                Err(NamesFault::Failed)
+            }
+        }
+    }
+
+    fn size(&mut self, name: &FileName) -> Result<Option<u64>, Failed> {
+        self.call(|folder| folder.size(name))
+    }
+
+    fn read_at(&mut self, name: &FileName, at: u64, room: &mut [u8]) -> Result<usize, Failed> {
+        let answer = match self.state.attached() {
+            Ok(folder) => folder.read_at(name, at, room),
+            Err(error) => Err(error),
+        };
+        self.faults.note(answer)
+    }
+
+    fn write_at(&mut self, name: &FileName, at: u64, piece: &[u8]) -> Result<(), Failed> {
+        if !ends_in_file(at, piece.len()) {
+            return Err(self.faults.raise());
+        }
+        self.call(|folder| folder.write_at(name, at, piece))
+    }
+
+    fn cut(&mut self, name: &FileName, to: u64) -> Result<(), Failed> {
+        self.call(|folder| folder.cut(name, to))
+    }
+
+    fn make(&mut self, name: &FileName) -> Result<(), Failed> {
+        self.call(|folder| folder.make(name))
+    }
+
+    fn remove(&mut self, name: &FileName) -> Result<(), Failed> {
+        self.call(|folder| folder.remove(name))
+    }
+
+    fn rename(&mut self, from: &FileName, to: &FileName) -> Result<(), Failed> {
+        self.call(|folder| folder.rename(from, to))
+    }
+
+    fn sync(&mut self) -> Result<(), Failed> {
+        let answer = self.state.sync();
+        self.faults.note(answer)
+    }
+}
