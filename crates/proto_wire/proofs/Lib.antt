@@ -1,0 +1,9 @@
+pub mod Varint
+pub mod Groups
+pub mod Grammar
+pub mod Words
+pub mod Fields
+pub mod Refusals
+pub mod Answered
+pub mod Seen
+pub mod Spells

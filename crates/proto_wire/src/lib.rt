@@ -1,0 +1,22 @@
+//! The proto3 wire format: fields written, and read by their grammar.
+#![tactic(auto)]
+
+mod fault;
+mod field;
+mod head;
+mod laws;
+mod message;
+mod reader;
+mod scan;
+mod wire_type;
+mod writer;
+
+pub use fault::WireFault;
+pub use field::{Field, Value};
+pub use laws::{fields_are_read, fields_follow, no_field_begins_another, words_are_fields};
+pub use message::{Message, read_message};
+pub use reader::Reader;
+pub use writer::Writer;
+
+#[cfg(test)]
+mod tests;
