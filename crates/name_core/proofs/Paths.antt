@@ -1,0 +1,67 @@
+-- Paths as lists of parts, and look-ups in a namespace.
+use Rattle.std.proofs.Common.{◌≡◌, ◌≢◌, ◌⊎◌, ℕ, ◌<◌, Bool, true, false, cond, List, [], ◌∷◌, ◌++◌, length, Some, refl, sym, ap, ◌∙◌, subst, inl, inr, arith, length-append}
+use Rattle.std.specs.Ordering.{nat_cmp, eq_by_cmp}
+use Rattle.std.specs.Cmp.{IsTotalOrder, eq_by_cmp_equiv}
+use Rattle.std.specs.Cmp.Lexicographic.{slice_cmp, lists_total, nat_list_cmp_total}
+use Rattle.std.specs.FinMap.{get, insert, get-insert, IsAntisymmetric, slice_cmp-IsAntisymmetric, nat_cmp-IsAntisymmetric}
+use Rattle.std.proofs.lemmas.Map.Views.{tells_apart}
+use Rattle.std.proofs.lemmas.Bool.{cases_Bool}
+use Rattle.name_core.specs.declared.entry.Entry.{Entry}
+use Rattle.name_core.specs.Namespace.{Namespace}
+
+-- Whether two paths are one, as the order of paths tells it
+abbrev pub same_path : List (List ℕ) → List (List ℕ) → Bool
+same_path = eq_by_cmp (slice_cmp (slice_cmp nat_cmp))
+
+pub path_cmp_total : IsTotalOrder (slice_cmp (slice_cmp nat_cmp))
+path_cmp_total = lists_total nat_list_cmp_total
+
+pub path_cmp-IsAntisymmetric : IsAntisymmetric (slice_cmp (slice_cmp nat_cmp))
+path_cmp-IsAntisymmetric = slice_cmp-IsAntisymmetric (slice_cmp-IsAntisymmetric nat_cmp-IsAntisymmetric)
+
+pub same_path-refl : (p : List (List ℕ)) → same_path p p ≡ true
+same_path-refl p = (eq_by_cmp_equiv path_cmp_total).refl p
+
+pub same_path-exact : (p q : List (List ℕ)) → same_path p q ≡ true → p ≡ q
+same_path-exact p q e = tells_apart path_cmp-IsAntisymmetric p q e
+
+-- Two paths are one, or they are told apart.
+pub cases_path : (p q : List (List ℕ)) → (p ≡ q) ⊎ ((same_path p q ≡ false) × (p ≢ q))
+cases_path p q =
+    elim (cases_Bool (same_path p q)) [
+      | inl same ↦ inl (same_path-exact p q same)
+      | inr other ↦ inr (other, λ e. let same : same_path p q ≡ true = subst (λ r. same_path p r ≡ true) e (same_path-refl p) in cc)
+    ]
+
+-- A path set is found, and no other path changes.
+pub get-insert_same : (names : Namespace) (path : List (List ℕ)) (entry : Entry) → get (insert names path entry) path ≡ Some entry
+get-insert_same names path entry =
+    get-insert path_cmp_total names path entry path ∙ ap (λ b. cond b (Some entry) (get names path)) (same_path-refl path)
+
+pub get-insert_other : (names : Namespace) (path : List (List ℕ)) (entry : Entry) (q : List (List ℕ)) → q ≢ path → get (insert names path entry) q ≡ get names q
+get-insert_other names path entry q other =
+    elim (cases_path q path) [
+      | inl same ↦ absurd (other same)
+      | inr apart ↦ get-insert path_cmp_total names path entry q ∙ ap (λ b. cond b (Some entry) (get names q)) apart.0
+    ]
+
+-- A longer path is another one.
+pub longer_is_other : (p q : List (List ℕ)) → length p < length q → q ≢ p
+longer_is_other p q h e = let l : length q ≡ length p = ap length e in omega arith
+
+pub longer_than_top : (top : List (List ℕ)) (part : List ℕ) → length top < length (top ++ part ∷ [])
+longer_than_top top part = omega (arith, length-append top (part ∷ []))
+
+pub filled-append : (top : List (List ℕ)) (part : List ℕ) → top ++ part ∷ [] ≢ []
+filled-append [] part e = cc
+filled-append (p ∷ top) part e = cc
+
+-- A path's parent and name are the only ones.
+pub parent_is : (p q : List (List ℕ)) (a b : List ℕ) → p ++ a ∷ [] ≡ q ++ b ∷ [] → p ≡ q
+parent_is [] [] a b e = refl
+parent_is [] (y ∷ q) a b e = let rest : [] ≡ q ++ b ∷ [] = cc in absurd (filled-append q b (sym rest))
+parent_is (x ∷ p) [] a b e = let rest : p ++ a ∷ [] ≡ [] = cc in absurd (filled-append p a rest)
+parent_is (x ∷ p) (y ∷ q) a b e =
+    let head : x ≡ y = cc in
+    let rest : p ++ a ∷ [] ≡ q ++ b ∷ [] = cc in
+    let parents : p ≡ q = parent_is p q a b rest in cc

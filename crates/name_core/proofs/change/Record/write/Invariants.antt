@@ -1,0 +1,10 @@
+use Rattle.std.proofs.Common.{◌≡◌, ◌++◌, take}
+use Rattle.std.specs.List.{flat_map}
+use Rattle.proto_wire.specs.Text.{varint_field, message_field}
+use Rattle.name_core.specs.RecordText.{change_text}
+use Rattle.name_core.proofs.change.Record.write.Given as goal
+
+-- The time and the events so far
+abbrev pub invariant-loop-change : goal.invariant-loop-change
+invariant-loop-change l =
+    l.text ≡ varint_field 1 l.self.time ++ flat_map (λ change. message_field 2 (change_text change)) (take l.change-index l.change-items)

@@ -1,0 +1,10 @@
+pub mod Faults
+pub mod Entry
+pub mod Namespace
+pub mod Log
+pub mod Plan
+pub mod RecordText
+pub mod Messages
+pub mod RecordReading
+pub mod Steps
+pub mod Readable

@@ -1,0 +1,74 @@
+-- The messages inside a record's text, each with what it takes of its own fields: the last value of a field that may
+-- stand once. Of an earlier one, and of a field that isn't known, only the form is read.
+use Rattle.std.specs.Prelude.{ℕ, List, Option, None, Some, is_some, unwrap_or, filter_map, Bool, true, false, if◌then◌else◌}
+use Rattle.std.specs.List.{last_or}
+use Rattle.proto_wire.specs.Field.{FieldText}
+use Rattle.proto_wire.specs.Taken.{text_in, last_number, last_text, last_message}
+
+-- FuseAttributes
+pub record AttributesText : Type 0 where
+  pub file_size : ℕ
+  pub mtime : ℕ
+  pub mode : ℕ
+  pub uid : ℕ
+  pub gid : ℕ
+  pub crtime : ℕ
+  pub mime : List ℕ
+  pub ttl_sec : ℕ
+  pub md5 : List ℕ
+
+abbrev pub attributes_in : List FieldText → AttributesText
+attributes_in fields = record {
+  file_size = last_number 1 fields;
+  mtime = last_number 2 fields;
+  mode = last_number 3 fields;
+  uid = last_number 4 fields;
+  gid = last_number 5 fields;
+  crtime = last_number 6 fields;
+  mime = last_text 7 fields;
+  ttl_sec = last_number 10 fields;
+  md5 = last_text 14 fields;
+}
+
+-- Entry's own fields. A missing attributes message is an empty one.
+pub record EntryFieldsText : Type 0 where
+  pub name : List ℕ
+  pub is_directory : ℕ
+  pub has_chunks : Bool
+  pub attributes : List ℕ
+
+abbrev pub entry_fields_in : List FieldText → EntryFieldsText
+entry_fields_in fields = record {
+  name = last_text 1 fields;
+  is_directory = last_number 2 fields;
+  has_chunks = is_some (last_message 3 fields);
+  attributes = last_text 4 fields;
+}
+
+-- Which of the two entries a field is: the old one, or the new one.
+abbrev pub is_old_entry : FieldText → Option Bool
+is_old_entry field =
+    if is_some (text_in 1 field) then Some true else if is_some (text_in 2 field) then Some false else None
+
+-- EventNotification's own fields, and whether the old entry stands behind the new one.
+pub record NotificationText : Type 0 where
+  pub old_entry : Option (List ℕ)
+  pub new_entry : Option (List ℕ)
+  pub new_parent : List ℕ
+  pub old_is_last : Bool
+
+abbrev pub notification_in : List FieldText → NotificationText
+notification_in fields = record {
+  old_entry = last_message 1 fields;
+  new_entry = last_message 2 fields;
+  new_parent = last_text 4 fields;
+  old_is_last = unwrap_or (last_or None (filter_map is_old_entry fields)) false;
+}
+
+-- SubscribeMetadataResponse's own fields. A missing notification is an empty one, which has no entries.
+pub record EventFieldsText : Type 0 where
+  pub directory : List ℕ
+  pub notification : List ℕ
+
+abbrev pub event_fields_in : List FieldText → EventFieldsText
+event_fields_in fields = record { directory = last_text 1 fields; notification = last_text 2 fields }

@@ -1,0 +1,114 @@
+ghost use Rattle.std.specs.Prelude.{◌≡◌, IfOk};
+
+use std::alloc::{AllocError, Global};
+use weed_base::Mime;
+
+/// In a second.
+const NANOSECONDS: u64 = 1_000_000_000;
+
+/// The greatest length of a file, in bytes.
+pub const MAX_FILE_SIZE: u64 = 274_877_906_944;
+
+/// The greatest length of a media type, in bytes.
+pub const MAX_MIME: usize = 255;
+
+/// The permission bits of a directory that a command makes.
+const DIRECTORY_MODE: u32 = 0o755;
+
+/// What an entry is.
+#[derive(Clone, Copy, Debug, PartialEq, Eq)]
+pub enum Kind {
+    Directory,
+    File,
+}
+
+/// What is known of an entry besides its contents.
+#[derive(Debug, Drop)]
+pub struct Attributes {
+    /// In bytes.
+    pub file_size: u64,
+    /// In seconds since 1970, when it was last changed.
+    pub mtime: u64,
+    /// The permission bits.
+    pub mode: u32,
+    pub uid: u32,
+    pub gid: u32,
+    /// In seconds since 1970, when it was made.
+    pub crtime: u64,
+    pub mime: Mime,
+    /// In seconds, and 0 where it stays for ever.
+    pub ttl_sec: u32,
+    /// The digest of the contents, where known.
+    pub md5: Option<[u8; 16]>,
+}
+
+impl Attributes {
+    /// The same attributes again.
+    pub fn copy(&self, alloc: Global) -> Result<Attributes, AllocError>
+        ensures { IfOk result (λ made. made ≡ self.now) }
+    {
+        Ok(Attributes {
+            file_size: self.file_size,
+            mtime: self.mtime,
+            mode: self.mode,
+            uid: self.uid,
+            gid: self.gid,
+            crtime: self.crtime,
+            mime: self.mime.copy(alloc)?,
+            ttl_sec: self.ttl_sec,
+            md5: self.md5,
+        })
+    }
+}
+
+/// What stands at a path.
+#[derive(Debug, Drop)]
+pub struct Entry {
+    pub kind: Kind,
+    pub attributes: Attributes,
+}
+
+impl Entry {
+    ghost use Rattle.name_core.specs.Entry.{is_file_kind, new_directory};
+
+    /// The directory that a command makes at a moment, in nanoseconds since 1970. Takes no memory.
+    pub fn directory_made_at(alloc: Global, moment: u64) -> Entry
+        ensures { result ≡ new_directory moment }
+    {
+        let seconds = moment / NANOSECONDS;
+        Entry {
+            kind: Kind::Directory,
+            attributes: Attributes {
+                file_size: 0,
+                mtime: seconds,
+                mode: DIRECTORY_MODE,
+                uid: 0,
+                gid: 0,
+                crtime: seconds,
+                mime: Mime::of(Vec::new(alloc)),
+                ttl_sec: 0,
+                md5: None,
+            },
+        }
+    }
+
+    /// Takes no memory.
+    pub fn is_file(&self) -> bool
+        ensures { result ≡ is_file_kind self.now.kind }
+    {
+        match self.kind {
+            Kind::Directory => false,
+            Kind::File => true,
+        }
+    }
+
+    /// The same entry again.
+    pub fn copy(&self, alloc: Global) -> Result<Entry, AllocError>
+        ensures { IfOk result (λ made. made ≡ self.now) }
+    {
+        Ok(Entry {
+            kind: self.kind,
+            attributes: self.attributes.copy(alloc)?,
+        })
+    }
+}

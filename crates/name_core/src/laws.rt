@@ -1,0 +1,35 @@
+ghost use Rattle.std.specs.Prelude.{◌≡◌, ◌≤◌, ◌<◌, ◌^◌, ℕ, List, [], ◌∷◌, ◌++◌, length, All, Ok};
+ghost use Rattle.name_core.specs.declared.change.Record.{Record};
+ghost use Rattle.name_core.specs.declared.command.Command.{Command};
+ghost use Rattle.name_core.specs.Namespace.{Namespace, IsWellFormed, KeepsWellFormed};
+ghost use Rattle.name_core.specs.Log.{end_of_time, last_time, fold, IsSound, after_record};
+ghost use Rattle.name_core.specs.Plan.{Recorded, plan_of};
+ghost use Rattle.name_core.specs.Readable.{PutsDirectory};
+ghost use Rattle.name_core.specs.RecordReading.{record_of};
+ghost use Rattle.name_core.specs.RecordText.{CanBeWritten, record_text};
+
+/// Each change of a plan's record leaves a well-formed namespace, where the first one is.
+pub fn plans_keep_names_well_formed()
+    ensures { (names : Namespace) (command : Command) (clock last : ℕ) (made : Record) → IsWellFormed names
+        → plan_of names command clock last ≡ Recorded made → KeepsWellFormed made.changes names }
+{}
+
+/// A plan's record comes after the last one, and not past the end of time.
+pub fn plans_keep_times_rising()
+    ensures { (names : Namespace) (command : Command) (clock last : ℕ) (made : Record) → last ≤ end_of_time
+        → plan_of names command clock last ≡ Recorded made → (last < made.time) × (made.time ≤ end_of_time) }
+{}
+
+/// A sound log stays sound with the record that a command makes of its namespace, and its namespace takes
+/// the record's step.
+pub fn plans_keep_logs_sound()
+    ensures sound { (log : List Record) (command : Command) (clock : ℕ) (made : Record) → IsSound log
+        → plan_of (fold log) command clock (last_time log) ≡ Recorded made → IsSound (log ++ made ∷ []) }
+    ensures folds { (log : List Record) (made : Record) → fold (log ++ made ∷ []) ≡ after_record made (fold log) }
+{}
+
+/// What is written is read back. Until files are read, this is so of records of directories.
+pub fn written_records_are_read()
+    ensures { (written : Record) → CanBeWritten written → All PutsDirectory written.changes → length (record_text written) < 2 ^ 64
+        → record_of (record_text written) ≡ Ok written }
+{}

@@ -1,0 +1,185 @@
+//! What the messages of an event mean: a change, where they mean anything.
+ghost use Rattle.std.specs.Prelude.{◌≡◌, ◌≢◌, ◌==◌, ◌&&◌, ◌||◌, ◌^◌, if◌then◌else◌, IfOk, IsTrue, length, nat_le, nat_lt, Some, None, MatchResult};
+ghost use Rattle.weed_base.specs.Path.{text_of};
+ghost use Rattle.name_core.specs.RecordReading.{are_good, attributes_of, change_of, directory_of_new, directory_put, entry_of, is_entry, path_in, path_read, path_with, stays};
+
+use crate::change::Change;
+use crate::entry::{Attributes, Entry, Kind, MAX_FILE_SIZE, MAX_MIME};
+use crate::messages::AttributesFields;
+use crate::parts::{EntryParts, EventParts};
+use std::alloc::{AllocError, Global};
+use weed_base::{Mime, Path, PathFault};
+
+/// The length of a digest in bytes.
+const DIGEST: usize = 16;
+
+/// The change of an event; `None` where it means nothing.
+pub fn change_in(alloc: Global, event: &EventParts) -> Result<Option<Change>, AllocError>
+    ensures { IfOk result (λ change. change ≡ change_of event.now) }
+{
+    let Some(new_entry) = &event.entries.new_entry else {
+        return Ok(None);
+    };
+    let Some(change) = put_in(alloc, directory_of(event), new_entry)? else {
+        return Ok(None);
+    };
+    let directory = event.fields.directory;
+    if is_in_place(alloc, directory, &event.entries.old_entry, &change)? {
+        Ok(Some(change))
+    } else {
+        Ok(None)
+    }
+}
+
+/// The directory of the new entry.
+fn directory_of<'a>(event: &EventParts<'a>) -> &'a [u8]
+    ensures { result.now ≡ directory_of_new event.now }
+{
+    if event.notification.new_parent.is_empty() {
+        event.fields.directory
+    } else {
+        event.notification.new_parent
+    }
+}
+
+/// The Put of a directory.
+fn put_in(alloc: Global, directory: &[u8], entry: &EntryParts) -> Result<Option<Change>, AllocError>
+    ensures { IfOk result (λ change. change ≡ directory_put directory.now entry.now) }
+{
+    if !is_valid(entry) || entry.fields.is_directory == 0 {
+        return Ok(None);
+    }
+    let Some(path) = path_at(alloc, directory, entry.fields.name)? else {
+        return Ok(None);
+    };
+    Ok(Some(Change::Put(path, valid_entry(alloc, entry)?)))
+}
+
+/// The old entry, if there is one, stands at the path of the change.
+fn is_in_place(
+    alloc: Global,
+    directory: &[u8],
+    old_entry: &Option<EntryParts>,
+    change: &Change,
+) -> Result<bool, AllocError>
+    ensures { IfOk result (λ answer. answer ≡ stays directory.now old_entry.now change.now) }
+{
+    let Some(entry) = old_entry else {
+        return Ok(true);
+    };
+    if !is_valid(entry) {
+        return Ok(false);
+    }
+    let Some(path) = path_at(alloc, directory, entry.fields.name)? else {
+        return Ok(false);
+    };
+    Ok(path.text() == change.path().text())
+}
+
+/// The path of a name in a directory; `None` where there is none.
+fn path_at(alloc: Global, directory: &[u8], name: &[u8]) -> Result<Option<Path>, AllocError>
+    ensures { IfOk result (λ path. path ≡ path_in directory.now name.now) }
+{
+    let Some(top) = directory_path(alloc, directory)? else {
+        return Ok(None);
+    };
+    path_below(alloc, &top, name)
+}
+
+#[tactic(auto, using(crate::proofs::ReadPaths::read_is))]
+fn directory_path(alloc: Global, text: &[u8]) -> Result<Option<Path>, AllocError>
+    ensures { IfOk result (λ path. path ≡ path_read text.now) }
+{
+    if_path(Path::read(alloc, text))
+}
+
+#[tactic(auto, using(crate::proofs::ReadPaths::joined_is))]
+fn path_below(alloc: Global, top: &Path, name: &[u8]) -> Result<Option<Path>, AllocError>
+    ensures { IfOk result (λ path. path ≡ path_with name.now top.now) }
+{
+    if_path(top.join_part(alloc, name))
+}
+
+/// No path where there is a fault in it.
+fn if_path(path: Result<Path, PathFault>) -> Result<Option<Path>, AllocError>
+    ensures { MatchResult path
+        (λ found. result ≡ Ok (Some found))
+        (λ fault. IfOk result (λ found. (found ≡ None) × (fault ≢ PathFault.Memory))) }
+{
+    match path {
+        Ok(path) => Ok(Some(path)),
+        Err(PathFault::Memory) => Err(AllocError),
+        Err(_) => Ok(None),
+    }
+}
+
+/// The test for an entry of good values. One with a chunk isn't, until files are read.
+fn is_valid(entry: &EntryParts) -> bool
+    ensures { result ≡ is_entry entry.now }
+{
+    !entry.fields.has_chunks && have_good_values(&entry.attributes)
+}
+
+/// The values fit their types, and keep to the limits of an entry.
+fn have_good_values(attributes: &AttributesFields) -> bool
+    ensures { result ≡ are_good attributes.now }
+{
+    fits_32(attributes.mode)
+        && fits_32(attributes.uid)
+        && fits_32(attributes.gid)
+        && fits_32(attributes.ttl_sec)
+        && attributes.file_size <= MAX_FILE_SIZE
+        && attributes.mime.len() <= MAX_MIME
+        && (attributes.md5.is_empty() || attributes.md5.len() == DIGEST)
+}
+
+fn fits_32(value: u64) -> bool
+    ensures { result ≡ nat_lt value (2 ^ 32) }
+{
+    value <= u64::from(u32::MAX)
+}
+
+fn valid_entry(alloc: Global, entry: &EntryParts) -> Result<Entry, AllocError>
+    requires { IsTrue (are_good entry.now.attributes) }
+    ensures { IfOk result (λ made. made ≡ entry_of entry.now) }
+{
+    let kind = if entry.fields.is_directory == 0 {
+        Kind::File
+    } else {
+        Kind::Directory
+    };
+    Ok(Entry {
+        kind,
+        attributes: good_attributes(alloc, &entry.attributes)?,
+    })
+}
+
+fn good_attributes(alloc: Global, fields: &AttributesFields) -> Result<Attributes, AllocError>
+    requires { IsTrue (are_good fields.now) }
+    ensures { IfOk result (λ made. made ≡ attributes_of fields.now) }
+{
+    Ok(Attributes {
+        file_size: fields.file_size,
+        mtime: fields.mtime,
+        mode: fields.mode as u32,
+        uid: fields.uid as u32,
+        gid: fields.gid as u32,
+        crtime: fields.crtime,
+        mime: Mime::new(alloc, fields.mime)?,
+        ttl_sec: fields.ttl_sec as u32,
+        md5: digest_of(fields.md5),
+    })
+}
+
+/// The digest of these bytes, none where there are none.
+fn digest_of(bytes: &[u8]) -> Option<[u8; DIGEST]>
+    requires { IsTrue ((length bytes.now == 0) || (length bytes.now == 16)) }
+    ensures { result ≡ (if length bytes.now == 0 then None else Some bytes.now) }
+{
+    if bytes.is_empty() {
+        return None;
+    }
+    let mut digest = [0; DIGEST];
+    digest.copy_from_slice(bytes);
+    Some(digest)
+}
