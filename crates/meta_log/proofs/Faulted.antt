@@ -1,0 +1,16 @@
+-- What is said of damage, weakened.
+use Rattle.std.proofs.Common.{◌≡◌, ℕ, List, Result, Err, subst, sym}
+use Rattle.std.specs.Prelude.{IfErr}
+use Rattle.meta_log.specs.Faults.{IfDamaged}
+use Rattle.meta_log.specs.declared.fault.LogFault.{LogFault}
+use Rattle.meta_log.specs.declared.fault.LogFault.TheVariants.{DiskFault, Damaged, Memory}
+
+pub IfDamaged-weaker : (P Q : List ℕ → ℕ → Type 0) (fault : LogFault) → ((file : List ℕ) (at : ℕ) → P file at → Q file at) → IfDamaged P fault → IfDamaged Q fault
+IfDamaged-weaker P Q DiskFault weaker said = tt
+IfDamaged-weaker P Q (Damaged file at) weaker said = weaker file at said
+IfDamaged-weaker P Q Memory weaker said = tt
+
+-- at the exit of a `?`
+pub damaged_on : {T : Type 0} (P Q : List ℕ → ℕ → Type 0) (result : Result T LogFault) (fault other : LogFault) → result ≡ Err fault → fault ≡ other → ((file : List ℕ) (at : ℕ) → P file at → Q file at) → IfDamaged P other → IfErr result (IfDamaged Q)
+damaged_on P Q result fault other is same weaker said =
+    subst (λ r. IfErr r (IfDamaged Q)) (sym is) (IfDamaged-weaker P Q fault weaker (subst (IfDamaged P) (sym same) said))

@@ -1,0 +1,96 @@
+-- What is read of a log from a place on.
+use Rattle.std.proofs.Common.{◌≡◌, ℕ, zero, suc, ◌+◌, ◌<◌, min, List, [], ◌∷◌, ◌++◌, length, take, drop, refl, sym, ◌∙◌, ap, subst, arith, append_assoc, length-append, Option, Some, None}
+use Rattle.std.specs.Prelude.{IfSome, All}
+use Rattle.std.proofs.lemmas.Bool.Decides.{nat_tests}
+use Rattle.std.proofs.lemmas.List.{drop_at}
+use Rattle.std.proofs.lemmas.List.Elements.{All-drop}
+use Rattle.weed_base.specs.Files.{Files, content}
+use Rattle.meta_log.specs.Segment.{IsShort, item, items}
+use Rattle.meta_log.specs.LogText.{segment_name}
+use Rattle.meta_log.specs.Stretch.{Stretch, IsOf}
+use Rattle.meta_log.specs.Held.{IsHeld}
+use Rattle.meta_log.specs.Left.{IsLeft, batch_from}
+use Rattle.meta_log.specs.Places.{place_behind, HoldsPlace, IsNext}
+use Rattle.meta_log.specs.declared.gate_log.GateLog.{GateLog}
+use Rattle.meta_log.specs.declared.place.Place.{Place}
+use Rattle.meta_log.proofs.Frames.{items-append, length-framed}
+
+-- behind some payloads of the log the others are left
+pub left_of_held : (files : Files) (log : GateLog) (before past : List (List ℕ)) → IsHeld files log (before ++ past) → IsLeft (content files (segment_name log.stem 1)) log.gate (length (items before)) past
+left_of_held files log before past held =
+    let segment = held.segment.segment in
+    let rest = segment.gate ∷ segment.rest in
+    record {
+      tail = rest;
+      spelled = ap (λ (l : List ℕ). drop (length (items before)) l) (segment.spelled ∙ ap (λ (l : List ℕ). l ++ rest) (items-append before past) ∙ append_assoc (items before) (items past) rest)
+          ∙ drop_at (items before) (items past ++ rest) (length (items before)) refl;
+      place = held.gate ∙ ap length (items-append before past) ∙ length-append (items before) (items past);
+      short = subst (All IsShort) (drop_at before past (length before) refl) (All-drop IsShort (length before) (before ++ past) segment.short);
+    }
+
+-- a bound that isn't reached bounds nothing
+pub batch_all : (most room had : ℕ) (left : List (List ℕ)) → had + length (items left) < most → batch_from most room had left ≡ take room left
+batch_all most zero had left within = refl
+batch_all most (suc room) had [] within = refl
+batch_all most (suc room) had (text ∷ left) within =
+    let long = length-append (item text) (items left) in
+    let rest : batch_from most room (had + length text) left ≡ take room left = batch_all most room (had + length text) left (omega (arith, within, long, length-framed text)) in
+    let below : had < most = omega (arith, within) in
+    one_more most room had text left below ∙ ap (λ (l : List (List ℕ)). text ∷ l) rest
+  where
+    one_more : (most room had : ℕ) (text : List ℕ) (left : List (List ℕ)) → had < most → batch_from most (suc room) had (text ∷ left) ≡ text ∷ batch_from most room (had + length text) left
+    one_more most room had text left below = grind (arith, nat_tests)
+
+place_is : (files : Files) (log : GateLog) (before past : List (List ℕ)) (place : Place) (at : ℕ) → IsHeld files log (before ++ past) → place ≡ place_behind before
+    → at ≡ min place.at (length (content files (segment_name log.stem 1))) → at ≡ length (items before)
+place_is files log before past place at held behind is =
+    let segment = held.segment.segment in
+    let there : place.at ≡ length (items before) = ap (λ (p : Place). p.at) behind in
+    let long = ap length (segment.spelled ∙ ap (λ (l : List ℕ). l ++ segment.gate ∷ segment.rest) (items-append before past)) in
+    omega (arith, is, there, long, length-append (items before ++ items past) (segment.gate ∷ segment.rest), length-append (items before) (items past))
+
+left_at : (files : Files) (log : GateLog) (before past : List (List ℕ)) (at : ℕ) → IsHeld files log (before ++ past) → at ≡ length (items before) → IsLeft (content files (segment_name log.stem 1)) log.gate at past
+left_at files log before past at held is =
+    subst (λ (n : ℕ). IsLeft (content files (segment_name log.stem 1)) log.gate n past) (sym is) (left_of_held files log before past held)
+
+-- A reading began at the place, and a batch with no bound on its bytes was collected.
+module _ (name : List ℕ) (log : GateLog) (name_is : name ≡ segment_name log.stem 1) (place : Place) (reading : Stretch) (room most : ℕ) (below : log.gate < most) where
+  Begins : Files → Type 0
+  Begins files = IsOf (content files name) reading × (reading.at ≡ min place.at (length (content files name)))
+
+  next_in : (files : Files) (texts : List (List ℕ)) (next : ℕ) → reading.at ≡ min place.at (length (content files name))
+      → ((left : List (List ℕ)) → IsLeft (content files name) log.gate reading.at left → texts ≡ batch_from most room 0 left) → next ≡ reading.at + length (items texts)
+      → (before past : List (List ℕ)) → IsHeld files log (before ++ past) → place ≡ place_behind before → (texts ≡ take room past) × (record { segment = 1; at = next } ≡ place_behind (before ++ take room past))
+  next_in files texts next at_is collected next_is before past held behind =
+      let at_place = place_is files log before past place reading.at held behind (at_is ∙ ap (λ (n : List ℕ). min place.at (length (content files n))) name_is) in
+      let here = subst (λ (n : List ℕ). IsLeft (content files n) log.gate reading.at past) (sym name_is) (left_at files log before past reading.at held at_place) in
+      let bounded : 0 + length (items past) < most = omega (arith, here.place, below) in
+      let taken = collected past here ∙ batch_all most room 0 past bounded in
+      let end : next ≡ length (items (before ++ take room past)) =
+      omega (arith, next_is, at_place, ap (λ (l : List (List ℕ)). length (items l)) taken, ap length (items-append before (take room past)), length-append (items before) (items (take room past))) in
+      (taken, ap (λ (n : ℕ). let p : Place = record { segment = 1; at = n } in p) end)
+
+pub told_next : (told now : Option Files) (name : List ℕ) (log : GateLog) → name ≡ segment_name log.stem 1 → (place : Place) (reading : Stretch) (room most : ℕ) → log.gate < most → (collected texts : List (List ℕ)) (next : ℕ) → now ≡ told → texts ≡ collected
+    → IfSome told (λ files. IsOf (content files name) reading × (reading.at ≡ min place.at (length (content files name))))
+    → IfSome now (λ files. (left : List (List ℕ)) → IsLeft (content files name) log.gate reading.at left → collected ≡ batch_from most room 0 left) → next ≡ reading.at + length (items collected)
+    → IsNext told log place room texts (record { segment = 1; at = next })
+told_next None now name log name_is place reading room most below collected texts next same texts_is begins batch next_is = tt
+told_next (Some files) now name log name_is place reading room most below collected texts next same texts_is begins batch next_is = λ before past held behind.
+    let here = subst (λ o. IfSome o (λ f. (left : List (List ℕ)) → IsLeft (content f name) log.gate reading.at left → collected ≡ batch_from most room 0 left)) same batch in
+    let found = next_in name log name_is place reading room most below files collected next begins.1 here next_is before past held behind in
+    (texts_is ∙ found.0, found.1)
+
+-- Of a disk that holds the place no damage is told.
+pub told_undamaged : (told now : Option Files) (name : List ℕ) (log : GateLog) → name ≡ segment_name log.stem 1 → (place : Place) (reading : Stretch) → now ≡ told → HoldsPlace told log place
+    → IfSome told (λ files. IsOf (content files name) reading × (reading.at ≡ min place.at (length (content files name))))
+    → IfSome now (λ files. (left : List (List ℕ)) → ¬ IsLeft (content files name) log.gate reading.at left) → told ≡ None
+told_undamaged None now name log name_is place reading same holds begins refuted = refl
+told_undamaged (Some files) now name log name_is place reading same holds begins refuted =
+    let none = subst (λ o. IfSome o (λ f. (left : List (List ℕ)) → ¬ IsLeft (content f name) log.gate reading.at left)) same refuted in
+    let at_place = place_is files log holds.0 holds.1 place reading.at holds.2 holds.3 (begins.1 ∙ ap (λ (n : List ℕ). min place.at (length (content files n))) name_is) in
+    let here = left_at files log holds.0 holds.1 reading.at holds.2 at_place in
+    absurd (none holds.1 (subst (λ (n : List ℕ). IsLeft (content files n) log.gate reading.at holds.1) (sym name_is) here))
+
+-- all of it is left at the start
+pub left_at_start : (files : Files) (log : GateLog) (payloads : List (List ℕ)) (at : ℕ) → IsHeld files log payloads → at ≡ 0 → IsLeft (content files (segment_name log.stem 1)) log.gate at payloads
+left_at_start files log payloads at held is = left_at files log [] payloads at held is

@@ -1,0 +1,18 @@
+use Rattle.std.proofs.Common.{◌∙◌}
+use Rattle.std.proofs.lemmas.Result.{err_from_is_err_and}
+use Rattle.meta_log.proofs.Faulted.{damaged_on}
+use Rattle.meta_log.proofs.Fetched.{told_next, told_undamaged}
+use Rattle.meta_log.proofs.gate_log.GateLog.read_from.Goals as goal
+
+pub returns-in_err-texts-clause-damaged : goal.returns-in_err-texts-clause-damaged
+returns-in_err-texts-clause-damaged g c =
+    let p = err_from_is_err_and c.from_residual-in_err-texts.result c.from_residual-in_err-texts.ensures.1 in
+    damaged_on _ _ c.from_residual-in_err-texts.result p.0 c.in_err-texts.field-0.0 p.1 p.2
+    (λ file at. told_undamaged (g.D.Disk.files c.args.disk.now) (g.D.Disk.files c.begin.new.disk) c.first_segment-name.result c.args.self.now c.first_segment-name.ensures c.args.place c.in_ok-reading.reading
+    c.begin.ensures.files c.requires c.in_ok-reading.ensures.of)
+    c.in_err-texts.ensures.damaged
+
+pub returns-clause-next : goal.returns-clause-next
+returns-clause-next g c =
+    told_next (g.D.Disk.files c.args.disk.now) (g.D.Disk.files c.begin.new.disk) c.first_segment-name.result c.args.self.now c.first_segment-name.ensures c.args.place c.in_ok-reading.reading c.args.room _ c.args.self.now.bounded
+    c.in_ok-texts.texts.items c.of.result c.at.result c.begin.ensures.files c.of.ensures c.in_ok-reading.ensures.of c.in_ok-texts.ensures.texts (c.at.ensures.at ∙ c.in_ok-texts.ensures.place)

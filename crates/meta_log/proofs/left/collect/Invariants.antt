@@ -1,0 +1,25 @@
+use Rattle.std.proofs.Common.{◌≡◌, ℕ, ◌+◌, ◌-◌, ◌≤◌, List, length}
+use Rattle.std.specs.Prelude.{IfSome}
+use Rattle.weed_base.specs.Files.{content}
+use Rattle.meta_log.specs.Segment.{items}
+use Rattle.meta_log.specs.Stretch.{IsOf}
+use Rattle.meta_log.specs.Left.{IsLeft}
+use Rattle.meta_log.proofs.Collected.{IsCollected}
+use Rattle.meta_log.proofs.left.collect.Given as goal
+
+-- the texts are those of the batch so far, and the disk is as it was
+abbrev pub invariant-taking : goal.invariant-taking
+invariant-taking g l =
+    (length l.texts.items ≤ l.room)
+    × (l.bytes ≤ l.reading.at)
+    × (l.reading.at ≡ l.fn.reading.at + length (items l.texts.items))
+    × (g.D.Disk.files l.disk ≡ g.D.Disk.files l.fn.disk)
+    × IfSome (g.D.Disk.files l.fn.disk) (λ files. IsOf (content files l.name) l.reading)
+    × IfSome (g.D.Disk.files l.fn.disk) (λ files.
+    (first : List (List ℕ)) → IsLeft (content files l.name) l.gate l.fn.reading.at first → IsCollected (content files l.name) l.gate l.reading.at l.most l.room l.bytes first l.texts.items)
+    × (g.D.Disk.faults l.fn.disk ≤ g.D.Disk.faults l.disk)
+    × (g.D.Disk.sent l.disk ≡ g.D.Disk.sent l.fn.disk)
+    × (g.D.Disk.send_faults l.disk ≡ g.D.Disk.send_faults l.fn.disk)
+
+abbrev pub decreases-taking : goal.decreases-taking
+decreases-taking g l = l.room - length l.texts.items

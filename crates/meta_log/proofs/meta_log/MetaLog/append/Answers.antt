@@ -1,0 +1,23 @@
+use Rattle.std.proofs.Common.{ℕ, ◌+◌, ◌<◌, sym, subst, ap}
+use Rattle.std.proofs.lemmas.Result.{err_from_is_err_and}
+use Rattle.meta_log.specs.declared.front.Front.{Front}
+use Rattle.weed_base.specs.Files.{BothTold}
+use Rattle.meta_log.specs.LogText.{segment_name, ChangesOnly}
+use Rattle.meta_log.specs.Kept.{front_of}
+use Rattle.meta_log.proofs.RecordLists.{record_appended, record_failed}
+use Rattle.meta_log.proofs.meta_log.MetaLog.append.Goals as goal
+
+pub returns-in_err-append-clause-failed : goal.returns-in_err-append-clause-failed
+returns-in_err-append-clause-failed g c =
+    let p = err_from_is_err_and c.from_residual.result c.from_residual.ensures.1 in
+    rw p.1 (λ records known held reads is.
+    record_failed (g.D.Disk.files c.args.disk.now) (g.D.Disk.files c.append.new.disk) c.args.self.now c.args.text.now
+    (subst (λ s. BothTold (ChangesOnly (segment_name s 1)) (g.D.Disk.files c.args.disk.now) (g.D.Disk.files c.append.new.disk)) c.args.self.now.is_log c.in_err-append.ensures.others)
+    c.args.self.now.is_log c.in_err-append.ensures.failed records known held reads (subst (λ n. (front_of c.args.self.now).time < n) (sym is) c.requires.past))
+
+pub returns-clause-appended : goal.returns-clause-appended
+returns-clause-appended g c records known held reads is =
+    record_appended (g.D.Disk.files c.args.disk.now) (g.D.Disk.files c.append.new.disk) c.args.self.now _ c.args.text.now
+    (subst (λ s. BothTold (ChangesOnly (segment_name s 1)) (g.D.Disk.files c.args.disk.now) (g.D.Disk.files c.append.new.disk)) c.args.self.now.is_log c.in_ok-append.ensures.others)
+    c.in_ok-append.ensures.appended records known held reads (subst (λ n. (front_of c.args.self.now).time < n) (sym is) c.requires.past)
+    (ap (λ (n : ℕ). let f : Front = record { count = c.args.self.now.front.count + 1; time = n } in f) (sym is))

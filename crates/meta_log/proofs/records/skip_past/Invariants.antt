@@ -1,0 +1,20 @@
+use Rattle.std.proofs.Common.{◌≡◌, ℕ, ◌-◌, ◌≤◌, List}
+use Rattle.std.specs.Prelude.{IfSome}
+use Rattle.weed_base.specs.Files.{content}
+use Rattle.meta_log.specs.Stretch.{IsOf}
+use Rattle.meta_log.specs.Skip.{IsAhead, AreLate}
+use Rattle.meta_log.proofs.records.skip_past.Given as goal
+
+-- only records up to the time were skipped, and the disk is as it was
+abbrev pub invariant-skipping : goal.invariant-skipping
+invariant-skipping g l =
+    (g.D.Disk.files l.disk ≡ g.D.Disk.files l.fn.disk)
+    × IfSome (g.D.Disk.files l.fn.disk) (λ files. IsOf (content files l.name) l.reading)
+    × IfSome (g.D.Disk.files l.fn.disk) (λ files.
+    (past : List (List ℕ)) → IsAhead (content files l.name) l.gate l.after l.fn.reading.at past → AreLate l.after past → IsAhead (content files l.name) l.gate l.after l.reading.at past)
+    × (g.D.Disk.faults l.fn.disk ≤ g.D.Disk.faults l.disk)
+    × (g.D.Disk.sent l.disk ≡ g.D.Disk.sent l.fn.disk)
+    × (g.D.Disk.send_faults l.disk ≡ g.D.Disk.send_faults l.fn.disk)
+
+abbrev pub decreases-skipping : goal.decreases-skipping
+decreases-skipping g l = l.reading.size - l.reading.at

@@ -1,0 +1,39 @@
+-- Payloads that are left to be read.
+use Rattle.std.specs.Prelude.{◌≡◌, ℕ, ◌+◌, List, [], ◌∷◌, ◌++◌, length, drop, All, nat_le, if◌then◌else◌, zero, suc, Option, None, Some}
+use Rattle.meta_log.specs.Segment.{IsShort, items}
+use Rattle.meta_log.specs.declared.head.Head.{Head}
+use Rattle.meta_log.specs.declared.head.Head.TheVariants.{Closed, Broken, Item}
+
+-- From this place on stand the items of these payloads, and behind them the gate.
+pub record IsLeft (bytes : List ℕ) (gate at : ℕ) (left : List (List ℕ)) : Type 0 where
+  pub tail : List ℕ
+  pub spelled : drop at bytes ≡ items left ++ tail
+  pub place : gate ≡ at + length (items left)
+  pub short : All IsShort left
+
+-- What a head means among items, where no gate is closed.
+abbrev pub among_items : Head → Head
+among_items Closed = Broken
+among_items Broken = Broken
+among_items (Item size) = Item size
+
+-- What is met of them.
+abbrev pub MeetsNext : List (List ℕ) → Head → Type 0
+MeetsNext left Closed = left ≡ []
+MeetsNext left Broken = ⊥
+MeetsNext left (Item size) = (payload : List ℕ) × (rest : List (List ℕ)) × (left ≡ payload ∷ rest) × (length payload ≡ size)
+
+-- The first of them was taken, or none was left.
+abbrev pub TakesNext : List ℕ → ℕ → ℕ → List (List ℕ) → Option (List ℕ) → Type 0
+TakesNext bytes gate at left None = left ≡ []
+TakesNext bytes gate at left (Some text) = (rest : List (List ℕ)) × (left ≡ text ∷ rest) × IsLeft bytes gate at rest
+
+-- The first of the texts, at most so many, and no more once they reach so many bytes with those before.
+abbrev pub batch_from : ℕ → ℕ → ℕ → List (List ℕ) → List (List ℕ)
+batch_from most zero had texts = []
+batch_from most (suc room) had [] = []
+batch_from most (suc room) had (text ∷ texts) = if nat_le most had then [] else text ∷ batch_from most room (had + length text) texts
+
+-- The first of the texts, at most so many, and no more once they reach 67,108,864 bytes.
+abbrev pub batch : ℕ → List (List ℕ) → List (List ℕ)
+batch room texts = batch_from 67108864 room 0 texts

@@ -1,0 +1,16 @@
+pub mod Segment
+pub mod GateText
+pub mod LogText
+pub mod Standing
+pub mod Stretch
+pub mod Head
+pub mod Scan
+pub mod Making
+pub mod Opening
+pub mod Held
+pub mod Faults
+pub mod Left
+pub mod Places
+pub mod Records
+pub mod Skip
+pub mod Kept

@@ -1,0 +1,22 @@
+-- Places in a log, and what is read from one on.
+use Rattle.std.specs.Prelude.{◌≡◌, ℕ, List, ◌++◌, length, take, Option, IfSome}
+use Rattle.weed_base.specs.Files.{Files}
+use Rattle.meta_log.specs.Segment.{items}
+use Rattle.meta_log.specs.Held.{IsHeld}
+use Rattle.meta_log.specs.declared.gate_log.GateLog.{GateLog}
+use Rattle.meta_log.specs.declared.place.Place.{Place}
+
+-- The place right behind these payloads.
+abbrev pub place_behind : List (List ℕ) → Place
+place_behind payloads = record { segment = 1; at = length (items payloads) }
+
+-- The disk, where told, holds the log, and the place lies behind some of its payloads.
+abbrev pub HoldsPlace : Option Files → GateLog → Place → Type 0
+HoldsPlace told log place =
+    IfSome told (λ files. (before : List (List ℕ)) × (past : List (List ℕ)) × IsHeld files log (before ++ past) × (place ≡ place_behind before))
+
+-- From the place on come these payloads, at most so many, and this is the place behind them.
+abbrev pub IsNext : Option Files → GateLog → Place → ℕ → List (List ℕ) → Place → Type 0
+IsNext told log place room texts next =
+    IfSome told (λ files. (before past : List (List ℕ)) → IsHeld files log (before ++ past) → place ≡ place_behind before
+    → (texts ≡ take room past) × (next ≡ place_behind (before ++ take room past)))

@@ -1,0 +1,28 @@
+-- Records that are skipped by their time.
+use Rattle.std.specs.Prelude.{ℕ, ◌≤◌, ◌<◌, Bool, List, ◌++◌, All, MatchBool}
+use Rattle.name_core.specs.declared.change.Record.{Record}
+use Rattle.meta_log.specs.Left.{IsLeft}
+use Rattle.meta_log.specs.Records.{ReadAs}
+
+-- What is left are records up to that time, and behind them these payloads.
+pub record IsAhead (bytes : List ℕ) (gate after at : ℕ) (past : List (List ℕ)) : Type 0 where
+  pub payloads : List (List ℕ)
+  pub records : List Record
+  pub here : IsLeft bytes gate at (payloads ++ past)
+  pub read : ReadAs payloads records
+  pub early : All (λ r. r.time ≤ after) records
+
+-- The payloads read as records past that time.
+abbrev pub AreLate : ℕ → List (List ℕ) → Type 0
+AreLate after past = (records : List Record) × ReadAs past records × All (λ r. after < r.time) records
+
+-- One of the records up to the time was skipped, or those past it are left.
+abbrev pub SkipsOne : List ℕ → ℕ → ℕ → ℕ → ℕ → Bool → Type 0
+SkipsOne bytes gate after at later skipped =
+    (past : List (List ℕ)) → IsAhead bytes gate after at past → AreLate after past
+    → MatchBool skipped (IsAhead bytes gate after later past) (IsLeft bytes gate later past)
+
+-- The records up to the time were skipped, and those past it are left.
+abbrev pub SkipsTo : List ℕ → ℕ → ℕ → ℕ → ℕ → Type 0
+SkipsTo bytes gate after at later =
+    (past : List (List ℕ)) → IsAhead bytes gate after at past → AreLate after past → IsLeft bytes gate later past

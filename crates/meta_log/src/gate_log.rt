@@ -1,0 +1,114 @@
+ghost use Rattle.std.specs.Prelude.{◌≡◌, ◌<◌, ◌+◌, ◌-◌, ◌^◌, ◌++◌, ◌∷◌, [], List, ℕ, IfOk, OnOk, IfErr, OnErr, IsErrOf, IfSome, None};
+ghost use Rattle.weed_base.specs.Told.{HasCause, IsCauseOf};
+ghost use Rattle.weed_base.specs.Files.{BothTold};
+ghost use Rattle.meta_log.specs.Making.{LeavesOthers};
+ghost use Rattle.meta_log.specs.LogText.{segment_name, ChangesOnly, Suits, MayKeep, IsDamage};
+
+use crate::fault::LogFault;
+use crate::gate_text::GateText;
+use crate::left::collect;
+use crate::opening::open_stem;
+use crate::place::Place;
+use crate::reading::Reading;
+use crate::stem::{Stem, first_segment};
+use crate::write::write_settled;
+use std::alloc::Global;
+use weed_base::{Disk, Failed, Items, LogText};
+
+/// A log on a disk, by the place of the gate behind its last item.
+#[derive(Debug, Drop)]
+pub struct GateLog {
+    pub(crate) stem: Stem,
+    pub(crate) gate: u64,
+    ghost bounded: { gate < 2 ^ 64 - 1 },
+}
+
+impl GateLog {
+    ghost use Rattle.meta_log.specs.Held.{HoldsLog, HoldsText, HoldsEither, IsOpened, stem_of, gate_of};
+    ghost use Rattle.meta_log.specs.Faults.{IfDamaged};
+    ghost use Rattle.meta_log.specs.Places.{place_behind, HoldsPlace, IsNext};
+
+    /// Opens the log of a disk, and makes its first segment where none counts. Syncs first.
+    pub fn open<D: Disk>(alloc: Global, disk: &mut D, stem: Stem) -> Result<GateLog, LogFault>
+        requires { MayKeep D.MARKS_ONLY stem }
+        ensures opened { IfOk result (λ log. IsOpened stem (D.files disk.old) (D.files disk.new) log) }
+        ensures damaged { IfErr result (IfDamaged (λ file at.
+            IfSome (D.files disk.old) (λ files. IsDamage stem files file at) × (D.files disk.new ≡ D.files disk.old))) }
+
+        // Whatever comes of it, the list that the disk holds stays.
+        ensures kept { (payloads : List (List ℕ)) → HoldsText stem (D.files disk.old) payloads → HoldsText stem (D.files disk.new) payloads }
+        ensures others { BothTold (LeavesOthers stem) (D.files disk.old) (D.files disk.new) }
+        ensures cause { IsCauseOf (D.faults disk.old) (D.faults disk.new) (IsErrOf result LogFault.DiskFault) }
+        ensures sent { (D.sent disk.new ≡ D.sent disk.old) × (D.send_faults disk.new ≡ D.send_faults disk.old) }
+    {
+        let gate = open_stem(alloc, disk, stem)?;
+        Ok(GateLog { stem, gate })
+    }
+
+    /// Adds a payload. Takes no memory. After `Failed` the log is to be opened again.
+    pub fn append<D: Disk>(&mut self, disk: &mut D, text: &GateText) -> Result<(), Failed>
+        requires held { (payloads : List (List ℕ)) × HoldsLog (D.files disk.old) self.old payloads }
+        requires suits { Suits (stem_of self.old) text.now }
+
+        ensures appended { OnOk result ((payloads : List (List ℕ)) → HoldsLog (D.files disk.old) self.old payloads
+            → HoldsLog (D.files disk.new) self.new (payloads ++ text.now ∷ [])) }
+        ensures failed { OnErr result ((payloads : List (List ℕ)) → HoldsLog (D.files disk.old) self.old payloads
+            → HoldsEither (stem_of self.old) (D.files disk.new) payloads text.now) }
+        ensures stem { stem_of self.new ≡ stem_of self.old }
+        ensures moves { OnOk result (gate_of self.old < gate_of self.new) }
+        ensures same { OnErr result (self.new ≡ self.old) }
+
+        ensures others { BothTold (ChangesOnly (segment_name (stem_of self.old) 1)) (D.files disk.old) (D.files disk.new) }
+        ensures cause { HasCause (D.faults disk.old) (D.faults disk.new) result }
+        ensures sent { (D.sent disk.new ≡ D.sent disk.old) × (D.send_faults disk.new ≡ D.send_faults disk.old) }
+    {
+        let segment = first_segment(self.stem);
+        let behind = text.ready();
+        write_settled(disk, &segment, self.gate + 1, behind)?;
+        write_settled(disk, &segment, self.gate, &[1])?;
+        self.gate += behind.len() as u64;
+        Ok(())
+    }
+
+    /// The place of the first payload. Takes no memory.
+    pub fn start(&self) -> Place
+        ensures { result ≡ place_behind [] }
+    {
+        Place { segment: 1, at: 0 }
+    }
+
+    /// The next payloads from a place on, at most `room`, and the place behind them.
+    pub fn read_from<D: Disk>(
+        &self,
+        alloc: Global,
+        disk: &mut D,
+        place: Place,
+        room: u32,
+    ) -> Result<(Items<LogText>, Place), LogFault>
+        requires { HoldsPlace (D.files disk.old) self.now place }
+        ensures next { IfOk result (λ read. IsNext (D.files disk.old) self.now place room read.0 read.1) }
+        ensures damaged { IfErr result (IfDamaged (λ _ _. D.files disk.old ≡ None)) }
+
+        ensures files { D.files disk.new ≡ D.files disk.old }
+        ensures cause { IsCauseOf (D.faults disk.old) (D.faults disk.new) (IsErrOf result LogFault.DiskFault) }
+        ensures sent { (D.sent disk.new ≡ D.sent disk.old) × (D.send_faults disk.new ≡ D.send_faults disk.old) }
+    {
+        let name = first_segment(self.stem);
+        let mut reading = Reading::begin(alloc, disk, &name, place.at)?;
+        let texts = collect(
+            alloc,
+            disk,
+            self.stem,
+            &name,
+            self.gate,
+            &mut reading,
+            room,
+            u64::MAX,
+        )?;
+        let next = Place {
+            segment: 1,
+            at: reading.at(),
+        };
+        Ok((Items::of(texts), next))
+    }
+}

@@ -1,0 +1,119 @@
+ghost use Rattle.std.specs.Prelude.{◌≡◌, ◌<◌, ◌+◌, ◌^◌, length, List, ℕ, IfOk, IfErr, IsErrOf, IfSome, MatchOption, None};
+ghost use Rattle.weed_base.specs.Told.{IsCauseOf};
+ghost use Rattle.weed_base.specs.Files.{content};
+ghost use Rattle.meta_log.specs.Stretch.{IsOf};
+ghost use Rattle.meta_log.specs.Head.{HasItem};
+ghost use Rattle.meta_log.specs.Left.{among_items, IsLeft, MeetsNext, TakesNext, batch_from};
+ghost use Rattle.meta_log.specs.LogText.{segment_name};
+ghost use Rattle.meta_log.specs.Segment.{items};
+ghost use Rattle.meta_log.specs.Faults.{IfDamaged};
+
+use crate::fault::LogFault;
+use crate::head::Head;
+use crate::reading::Reading;
+use crate::scan::{AHEAD, next_head};
+use crate::stem::{Stem, first_segment};
+use std::alloc::Global;
+use weed_base::{Disk, FileName, LogText};
+
+/// What a head means among items, where no gate is closed.
+fn item_or_broken(head: Head) -> Head
+    ensures { result ≡ among_items head }
+{
+    match head {
+        Head::Item(size) => Head::Item(size),
+        Head::Closed | Head::Broken => Head::Broken,
+    }
+}
+
+/// What is left up to the gate: the next item, or nothing, which is `Closed`.
+pub fn left_head<D: Disk>(
+    disk: &mut D,
+    name: &FileName,
+    gate: u64,
+    reading: &mut Reading,
+) -> Result<Head, LogFault>
+    requires { IfSome (D.files disk.old) (λ files. IsOf (content files name.now) reading.old) }
+    ensures of { IfOk result (λ _. IfSome (D.files disk.old) (λ files. IsOf (content files name.now) reading.new)) }
+    ensures meets { IfOk result (λ head. IfSome (D.files disk.old) (λ files.
+        (left : List (List ℕ)) → IsLeft (content files name.now) gate reading.old.at left → MeetsNext left head)) }
+    ensures there { IfOk result (HasItem reading.new.held) }
+    ensures place { IfOk result (λ _. (reading.new.at ≡ reading.old.at) × (reading.new.size ≡ reading.old.size)) }
+    ensures undamaged { IfErr result (IfDamaged (λ _ _. ⊥)) }
+    ensures files { D.files disk.new ≡ D.files disk.old }
+    ensures cause { IsCauseOf (D.faults disk.old) (D.faults disk.new) (IsErrOf result LogFault.DiskFault) }
+    ensures sent { (D.sent disk.new ≡ D.sent disk.old) × (D.send_faults disk.new ≡ D.send_faults disk.old) }
+{
+    if reading.at() >= gate {
+        return Ok(Head::Closed);
+    }
+    Ok(item_or_broken(next_head(disk, name, reading)?))
+}
+
+/// Takes the next text up to the gate.
+fn take_text<D: Disk>(
+    alloc: Global,
+    disk: &mut D,
+    stem: Stem,
+    name: &FileName,
+    gate: u64,
+    reading: &mut Reading,
+) -> Result<Option<LogText>, LogFault>
+    requires of { IfSome (D.files disk.old) (λ files. IsOf (content files name.now) reading.old) }
+    ensures of { IfOk result (λ _. IfSome (D.files disk.old) (λ files. IsOf (content files name.now) reading.new)) }
+    ensures takes { IfOk result (λ taken. IfSome (D.files disk.old) (λ files.
+        (left : List (List ℕ)) → IsLeft (content files name.now) gate reading.old.at left → TakesNext (content files name.now) gate reading.new.at left taken)) }
+    ensures place { IfOk result (λ taken. MatchOption taken (reading.new.at ≡ reading.old.at)
+        (λ text. (reading.new.at ≡ reading.old.at + (5 + length text)) × (reading.new.at < 2 ^ 64))) }
+    ensures damaged { IfErr result (IfDamaged (λ _ _. IfSome (D.files disk.old) (λ files.
+        (left : List (List ℕ)) → ¬ IsLeft (content files name.now) gate reading.old.at left))) }
+    ensures files { D.files disk.new ≡ D.files disk.old }
+    ensures cause { IsCauseOf (D.faults disk.old) (D.faults disk.new) (IsErrOf result LogFault.DiskFault) }
+    ensures sent { (D.sent disk.new ≡ D.sent disk.old) × (D.send_faults disk.new ≡ D.send_faults disk.old) }
+{
+    match left_head(disk, name, gate, reading)? {
+        Head::Closed => Ok(None),
+        Head::Broken => Err(LogFault::Damaged {
+            file: first_segment(stem),
+            at: reading.at(),
+        }),
+        Head::Item(size) => {
+            let text = LogText::new(alloc, &reading.held()[AHEAD..AHEAD + size])?;
+            reading.skip(AHEAD + size);
+            Ok(Some(text))
+        }
+    }
+}
+
+/// The next texts up to the gate: at most `room`, and no more once they reach `most` bytes.
+pub fn collect<D: Disk>(
+    alloc: Global,
+    disk: &mut D,
+    stem: Stem,
+    name: &FileName,
+    gate: u64,
+    reading: &mut Reading,
+    room: u32,
+    most: u64,
+) -> Result<Vec<LogText>, LogFault>
+    requires of { IfSome (D.files disk.old) (λ files. IsOf (content files name.now) reading.old) }
+    ensures texts { IfOk result (λ texts. IfSome (D.files disk.old) (λ files.
+        (left : List (List ℕ)) → IsLeft (content files name.now) gate reading.old.at left → texts.items ≡ batch_from most room 0 left)) }
+    ensures place { IfOk result (λ texts. reading.new.at ≡ reading.old.at + length (items texts.items)) }
+    ensures damaged { IfErr result (IfDamaged (λ _ _. IfSome (D.files disk.old) (λ files.
+        (left : List (List ℕ)) → ¬ IsLeft (content files name.now) gate reading.old.at left))) }
+    ensures files { D.files disk.new ≡ D.files disk.old }
+    ensures cause { IsCauseOf (D.faults disk.old) (D.faults disk.new) (IsErrOf result LogFault.DiskFault) }
+    ensures sent { (D.sent disk.new ≡ D.sent disk.old) × (D.send_faults disk.new ≡ D.send_faults disk.old) }
+{
+    let mut texts = Vec::new(alloc);
+    let mut bytes = 0;
+    'taking: while texts.len() < room as usize && bytes < most {
+        let Some(text) = take_text(alloc, disk, stem, name, gate, reading)? else {
+            break;
+        };
+        bytes += text.as_slice().len() as u64;
+        texts.push(text)?;
+    }
+    Ok(texts)
+}

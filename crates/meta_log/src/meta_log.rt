@@ -1,0 +1,138 @@
+ghost use Rattle.std.specs.Prelude.{◌≡◌, ◌<◌, ◌≤◌, ◌+◌, ◌++◌, ◌∷◌, [], List, Bool, false, None, IfOk, OnOk, IfErr, OnErr, IsErrOf, IfSome};
+ghost use Rattle.weed_base.specs.Told.{HasCause, IsCauseOf};
+ghost use Rattle.weed_base.specs.Files.{BothTold};
+ghost use Rattle.name_core.specs.declared.change.Record.{Record};
+ghost use Rattle.name_core.specs.Log.{end_of_time};
+ghost use Rattle.meta_log.specs.Making.{LeavesOthers};
+ghost use Rattle.meta_log.specs.LogText.{segment_name, ChangesOnly};
+ghost use Rattle.meta_log.specs.Records.{ReadsAs};
+ghost use Rattle.meta_log.specs.declared.stem.Stem.TheVariants.{Log};
+
+use crate::fault::LogFault;
+use crate::front::Front;
+use crate::gate_log::GateLog;
+use crate::gate_text::GateText;
+use crate::left::collect;
+use crate::opening::open_first;
+use crate::reading::Reading;
+use crate::records::{RisingRecords, skip_past};
+use crate::stem::{Stem, first_segment};
+use std::alloc::Global;
+use weed_base::{Disk, Failed, Items, LogText};
+
+/// Once a batch of texts has so many bytes, it gets no more.
+const MOST_BYTES: u64 = 67_108_864;
+
+/// A filer's log of records, whose times rise strictly.
+#[derive(Debug, Drop)]
+pub struct MetaLog {
+    log: GateLog,
+    front: Front,
+    ghost is_log: { log.stem ≡ Log },
+    ghost counted: { front.count ≤ log.gate },
+    ghost bounded: { front.time ≤ end_of_time },
+}
+
+impl MetaLog {
+    ghost use Rattle.meta_log.specs.Faults.{IfDamaged};
+    ghost use Rattle.meta_log.specs.Kept.{front_of, HoldsRecordLog, HoldsRecords, HoldsEitherLog, IsOpenedFrom, IsRecordDamage, IsPast};
+
+    /// Opens the log of records of a disk, and makes its first segment where none counts. Syncs first.
+    pub fn open<D: Disk>(alloc: Global, disk: &mut D) -> Result<MetaLog, LogFault>
+        requires { D.MARKS_ONLY ≡ false }
+        ensures opened { IfOk result (λ meta. IsOpenedFrom (D.files disk.old) (D.files disk.new) meta) }
+        ensures damaged { IfErr result (IfDamaged (λ file at.
+            IfSome (D.files disk.old) (λ files. IsRecordDamage files file at) × (D.files disk.new ≡ D.files disk.old))) }
+
+        // Whatever comes of it, the records that the disk holds stay.
+        ensures kept { (records : List Record) → HoldsRecordLog (D.files disk.old) records → HoldsRecordLog (D.files disk.new) records }
+        ensures others { BothTold (LeavesOthers Log) (D.files disk.old) (D.files disk.new) }
+        ensures cause { IsCauseOf (D.faults disk.old) (D.faults disk.new) (IsErrOf result LogFault.DiskFault) }
+        ensures sent { (D.sent disk.new ≡ D.sent disk.old) × (D.send_faults disk.new ≡ D.send_faults disk.old) }
+    {
+        let mut records = RisingRecords {
+            front: Front { count: 0, time: 0 },
+        };
+        let gate = open_first(alloc, disk, Stem::Log, &mut records)?;
+        let log = GateLog {
+            stem: Stem::Log,
+            gate,
+        };
+        Ok(MetaLog {
+            log,
+            front: records.front,
+        })
+    }
+
+    /// Adds a record's text, with its time, which is past the last. Takes no memory. After `Failed` the log
+    /// is to be opened again.
+    pub fn append<D: Disk>(
+        &mut self,
+        disk: &mut D,
+        time: u64,
+        text: &GateText,
+    ) -> Result<(), Failed>
+        requires held { (records : List Record) × HoldsRecords (D.files disk.old) self.old records }
+        requires reads { (known : Record) × ReadsAs text.now known × (known.time ≡ time) }
+        requires past { (front_of self.old).time < time }
+
+        ensures appended { OnOk result ((records : List Record) (known : Record) → HoldsRecords (D.files disk.old) self.old records
+            → ReadsAs text.now known → known.time ≡ time → HoldsRecords (D.files disk.new) self.new (records ++ known ∷ [])) }
+        ensures failed { OnErr result ((records : List Record) (known : Record) → HoldsRecords (D.files disk.old) self.old records
+            → ReadsAs text.now known → known.time ≡ time → HoldsEitherLog (D.files disk.new) records known) }
+        ensures front { OnOk result (front_of self.new ≡ record { count = (front_of self.old).count + 1; time = time }) }
+        ensures same { OnErr result (self.new ≡ self.old) }
+
+        ensures others { BothTold (ChangesOnly (segment_name Log 1)) (D.files disk.old) (D.files disk.new) }
+        ensures cause { HasCause (D.faults disk.old) (D.faults disk.new) result }
+        ensures sent { (D.sent disk.new ≡ D.sent disk.old) × (D.send_faults disk.new ≡ D.send_faults disk.old) }
+    {
+        self.log.append(disk, text)?;
+        self.front = Front {
+            count: self.front.count + 1,
+            time,
+        };
+        Ok(())
+    }
+
+    /// The texts of the first records past a time: at most `room`, and no more once they reach
+    /// 67,108,864 bytes.
+    pub fn read_after<D: Disk>(
+        &self,
+        alloc: Global,
+        disk: &mut D,
+        after: u64,
+        room: u32,
+    ) -> Result<Items<LogText>, LogFault>
+        requires { (records : List Record) × HoldsRecords (D.files disk.old) self.now records }
+        ensures past { IfOk result (λ texts. IsPast (D.files disk.old) self.now after room texts) }
+        ensures damaged { IfErr result (IfDamaged (λ _ _. D.files disk.old ≡ None)) }
+
+        ensures files { D.files disk.new ≡ D.files disk.old }
+        ensures cause { IsCauseOf (D.faults disk.old) (D.faults disk.new) (IsErrOf result LogFault.DiskFault) }
+        ensures sent { (D.sent disk.new ≡ D.sent disk.old) × (D.send_faults disk.new ≡ D.send_faults disk.old) }
+    {
+        let name = first_segment(Stem::Log);
+        let mut reading = Reading::begin(alloc, disk, &name, 0)?;
+        skip_past(alloc, disk, &name, self.log.gate, &mut reading, after)?;
+        let texts = collect(
+            alloc,
+            disk,
+            Stem::Log,
+            &name,
+            self.log.gate,
+            &mut reading,
+            room,
+            MOST_BYTES,
+        )?;
+        Ok(Items::of(texts))
+    }
+
+    /// How many records there are, and the time of the last. Takes no memory.
+    pub fn front(&self) -> Front
+        ensures front { result ≡ front_of self.now }
+        ensures bounded { result.time ≤ end_of_time }
+    {
+        self.front
+    }
+}

@@ -1,0 +1,113 @@
+ghost use Rattle.std.specs.Prelude.{◌≡◌, ◌<◌, ◌≤◌, IfOk, OnOk, IfErr, IsErrOf, IfSome, MatchOption};
+ghost use Rattle.std.specs.Bool.{OnTrue};
+ghost use Rattle.weed_base.specs.Told.{IsCauseOf};
+ghost use Rattle.weed_base.specs.Files.{content};
+ghost use Rattle.meta_log.specs.Stretch.{IsOf};
+ghost use Rattle.meta_log.specs.Skip.{SkipsOne, SkipsTo};
+ghost use Rattle.meta_log.specs.Faults.{IfDamaged};
+ghost use Rattle.name_core.specs.declared.change.Record.{Record};
+ghost use Rattle.name_core.specs.Log.{end_of_time};
+ghost use Rattle.meta_log.specs.Records.{ReadsAs, IsNoRecord, AreRecords, HasFront};
+
+use crate::check::Check;
+use crate::fault::LogFault;
+use crate::front::Front;
+use crate::head::Head;
+use crate::left::left_head;
+use crate::reading::Reading;
+use crate::scan::AHEAD;
+use name_core::{Record, RecordFault};
+use std::alloc::{AllocError, Global};
+use weed_base::{Disk, FileName};
+
+/// Lets texts of records through whose times rise, and knows their front.
+#[derive(Debug, Drop)]
+pub struct RisingRecords {
+    pub front: Front,
+    ghost bounded: { front.time ≤ end_of_time },
+}
+
+/// The time of the record that the payload reads as, where it reads as one.
+fn time_of(alloc: Global, payload: &[u8]) -> Result<Option<u64>, AllocError>
+    ensures { IfOk result (λ time. MatchOption time (IsNoRecord payload.now) (λ time. (known : Record) × ReadsAs payload.now known × (known.time ≡ time))) }
+{
+    match Record::read(alloc, payload) {
+        Ok(known) => Ok(Some(known.time)),
+        Err(RecordFault::Memory) => Err(AllocError),
+        Err(RecordFault::Wire(_) | RecordFault::BadRecord) => Ok(None),
+    }
+}
+
+/// Skips the next record where it isn't past that time, and answers whether it did.
+fn skip_one<D: Disk>(
+    alloc: Global,
+    disk: &mut D,
+    name: &FileName,
+    gate: u64,
+    reading: &mut Reading,
+    after: u64,
+) -> Result<bool, LogFault>
+    requires { IfSome (D.files disk.old) (λ files. IsOf (content files name.now) reading.old) }
+    ensures of { IfOk result (λ _. IfSome (D.files disk.old) (λ files. IsOf (content files name.now) reading.new)) }
+    ensures skips { IfOk result (λ skipped. IfSome (D.files disk.old) (λ files. SkipsOne (content files name.now) gate after reading.old.at reading.new.at skipped)) }
+    ensures goes { IfOk result (λ skipped. (reading.new.size ≡ reading.old.size) × OnTrue skipped ((reading.old.at < reading.new.at) × (reading.new.at ≤ reading.new.size))) }
+    ensures undamaged { IfErr result (IfDamaged (λ _ _. ⊥)) }
+    ensures files { D.files disk.new ≡ D.files disk.old }
+    ensures cause { IsCauseOf (D.faults disk.old) (D.faults disk.new) (IsErrOf result LogFault.DiskFault) }
+    ensures sent { (D.sent disk.new ≡ D.sent disk.old) × (D.send_faults disk.new ≡ D.send_faults disk.old) }
+{
+    let Head::Item(size) = left_head(disk, name, gate, reading)? else {
+        return Ok(false);
+    };
+    match time_of(alloc, &reading.held()[AHEAD..AHEAD + size])? {
+        Some(time) if time <= after => {
+            reading.skip(AHEAD + size);
+            Ok(true)
+        }
+        _ => Ok(false),
+    }
+}
+
+/// Skips the records up to a time.
+pub fn skip_past<D: Disk>(
+    alloc: Global,
+    disk: &mut D,
+    name: &FileName,
+    gate: u64,
+    reading: &mut Reading,
+    after: u64,
+) -> Result<(), LogFault>
+    requires { IfSome (D.files disk.old) (λ files. IsOf (content files name.now) reading.old) }
+    ensures of { OnOk result (IfSome (D.files disk.old) (λ files. IsOf (content files name.now) reading.new)) }
+    ensures skipped { OnOk result (IfSome (D.files disk.old) (λ files. SkipsTo (content files name.now) gate after reading.old.at reading.new.at)) }
+    ensures undamaged { IfErr result (IfDamaged (λ _ _. ⊥)) }
+    ensures files { D.files disk.new ≡ D.files disk.old }
+    ensures cause { IsCauseOf (D.faults disk.old) (D.faults disk.new) (IsErrOf result LogFault.DiskFault) }
+    ensures sent { (D.sent disk.new ≡ D.sent disk.old) × (D.send_faults disk.new ≡ D.send_faults disk.old) }
+{
+    'skipping: while skip_one(alloc, disk, name, gate, reading, after)? {}
+    Ok(())
+}
+
+impl Check for RisingRecords {
+    ghost allowed = { AreRecords };
+
+    ghost passed = { λ check payloads. HasFront check.front payloads };
+
+    ghost count = { λ check. check.front.count };
+
+    fn pass(&mut self, alloc: Global, payload: &[u8]) -> Result<bool, AllocError> {
+        match time_of(alloc, payload)? {
+            Some(time) if time > self.front.time => {
+                self.front = Front {
+                    count: self.front.count + 1,
+                    time,
+                };
+                Ok(true)
+            }
+            _ => Ok(false),
+        }
+    }
+
+    ghost sound = { λ check payloads passed. (passed.0, passed.1, passed.2) };
+}

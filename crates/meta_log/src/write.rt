@@ -1,0 +1,27 @@
+ghost use Rattle.std.specs.Prelude.{◌≡◌, ◌<◌, ◌+◌, ◌^◌, length, IfSome, OnOk, MatchResult};
+ghost use Rattle.std.specs.Option.{option_map};
+ghost use Rattle.weed_base.specs.Told.{HasCause};
+ghost use Rattle.weed_base.specs.Files.{IsWithin, written, MayWrite, BothTold};
+ghost use Rattle.meta_log.specs.LogText.{ChangesOnly};
+
+use weed_base::{Disk, Failed, FileName};
+
+/// Writes a piece and settles it.
+pub fn write_settled<D: Disk>(
+    disk: &mut D,
+    name: &FileName,
+    at: u64,
+    piece: &[u8],
+) -> Result<(), Failed>
+    requires { IfSome (D.files disk.old) (IsWithin name.now at) }
+    ensures files { MatchResult result
+        (λ _. D.files disk.new ≡ option_map (written name.now at piece.now) (D.files disk.old))
+        (λ _. BothTold (MayWrite name.now at piece.now) (D.files disk.old) (D.files disk.new)) }
+    ensures others { BothTold (ChangesOnly name.now) (D.files disk.old) (D.files disk.new) }
+    ensures bound { OnOk result (at + length piece.now < 2 ^ 63) }
+    ensures cause { HasCause (D.faults disk.old) (D.faults disk.new) result }
+    ensures sent { (D.sent disk.new ≡ D.sent disk.old) × (D.send_faults disk.new ≡ D.send_faults disk.old) }
+{
+    disk.write_at(name, at, piece)?;
+    disk.sync()
+}
