@@ -1,0 +1,3 @@
+pub mod FileId
+pub mod Reading
+pub mod Faults
