@@ -1,0 +1,12 @@
+pub mod SuperBlocks
+pub mod Linear
+pub mod Tables
+pub mod Codecs
+pub mod Flagged
+pub mod PartsRead
+pub mod ContentsRead
+pub mod Places
+pub mod ItemsRead
+pub mod Verdicts
+pub mod Apart
+pub mod Slices
