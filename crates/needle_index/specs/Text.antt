@@ -1,0 +1,37 @@
+-- The text of an index: entries of 16 bytes, each of which changes the map.
+use Rattle.std.specs.Prelude.{◌≡◌, ◌≢◌, ℕ, ◌-◌, ◌/◌, ◌%◌, ◌^◌, ◌==◌, if◌then◌else◌, List, ◌++◌, length, take, drop}
+use Rattle.std.specs.Int.{w32, w64, to_be_bytes, from_be_bytes}
+use Rattle.std.specs.List.{fold}
+use Rattle.std.specs.Simd.{first_chunks}
+use Rattle.std.specs.FinMap.{empty, insert, remove}
+use Rattle.needle_index.specs.Index.{Spots}
+use Rattle.needle_index.specs.declared.entry.Entry.{Entry}
+use Rattle.needle_index.specs.declared.fault.IndexFault.{IndexFault}
+use Rattle.needle_index.specs.declared.fault.IndexFault.TheVariants.{Ragged, Memory}
+
+-- The bytes of an entry: its key, offset and size, big-endian.
+abbrev pub entry_text : Entry → List ℕ
+entry_text entry = to_be_bytes w64 entry.key ++ (to_be_bytes w32 entry.offset ++ to_be_bytes w32 entry.size)
+
+-- The entry that 16 bytes are.
+abbrev pub entry_of : List ℕ → Entry
+entry_of bytes = record {
+  key = from_be_bytes w64 (take 8 bytes);
+  offset = from_be_bytes w32 (take 4 (drop 8 bytes));
+  size = from_be_bytes w32 (drop 12 bytes);
+}
+
+-- What an entry makes of a map: the greatest size removes the key, and any other puts the spot.
+abbrev pub entered : Spots → Entry → Spots
+entered spots entry =
+    if entry.size == 2 ^ 32 - 1 then remove spots entry.key
+    else insert spots entry.key (record { offset = entry.offset; size = entry.size })
+
+-- The map that the entries of a text leave, one after another.
+unfoldable pub spots_of : List ℕ → Spots
+spots_of text = fold (λ spots bytes. entered spots (entry_of bytes)) empty (first_chunks 16 (length text / 16) text)
+
+-- Why a text is no index: it ends inside an entry. Want of memory may come of any.
+abbrev pub IsCauseIn : List ℕ → IndexFault → Type 0
+IsCauseIn text (Ragged n) = (n ≡ length text) × (n % 16 ≢ 0)
+IsCauseIn text Memory = Unit {0}

@@ -1,0 +1,62 @@
+ghost use Rattle.std.specs.Prelude.{◌≡◌};
+ghost use Rattle.needle_index.specs.Text.{entry_of, entry_text};
+
+/// An entry of an index file, of 16 bytes.
+#[derive(Clone, Copy, Debug, PartialEq, Eq)]
+pub struct Entry {
+    pub key: u64,
+    /// In units of 8 bytes; in an entry that removes, where the item that says so lies.
+    pub offset: u32,
+    /// In bytes, or `Entry::REMOVED`.
+    pub size: u32,
+}
+
+impl Entry {
+    /// The length of an entry in bytes.
+    pub const LENGTH: usize = 16;
+
+    /// The size of an entry that removes its key.
+    pub const REMOVED: u32 = u32::MAX;
+
+    /// Takes no memory.
+    pub fn read(bytes: &[u8; 16]) -> Entry
+        ensures { result ≡ entry_of bytes.now }
+    {
+        let [
+            k0,
+            k1,
+            k2,
+            k3,
+            k4,
+            k5,
+            k6,
+            k7,
+            o0,
+            o1,
+            o2,
+            o3,
+            s0,
+            s1,
+            s2,
+            s3,
+        ] = *bytes;
+        Entry {
+            key: u64::from_be_bytes([k0, k1, k2, k3, k4, k5, k6, k7]),
+            offset: u32::from_be_bytes([o0, o1, o2, o3]),
+            size: u32::from_be_bytes([s0, s1, s2, s3]),
+        }
+    }
+
+    /// Takes no memory.
+    pub fn write(&self) -> [u8; 16]
+        ensures text { result ≡ entry_text self.now }
+        ensures read_back { entry_of result ≡ self.now }
+    {
+        let Entry { key, offset, size } = *self;
+        let mut bytes = [0; Entry::LENGTH];
+        bytes[..8].copy_from_slice(&key.to_be_bytes());
+        bytes[8..12].copy_from_slice(&offset.to_be_bytes());
+        bytes[12..].copy_from_slice(&size.to_be_bytes());
+        bytes
+    }
+}

@@ -1,0 +1,67 @@
+ghost use Rattle.std.specs.Prelude.{◌≡◌, ◌+◌, ◌<◌, ◌≤◌, IfOk, IsOk, OnOk, OnErr};
+ghost use Rattle.std.specs.FinMap.{empty, get, insert, remove};
+
+use crate::spot::Spot;
+use std::alloc::{AllocError, Global};
+use std::collections::HashMap;
+use std::marker::Model;
+
+/// The spots by their keys.
+#[derive(Debug, Drop)]
+pub struct Slots {
+    map: HashMap<u64, Spot>,
+}
+
+impl Model for Slots {
+    ghost use Rattle.std.specs.FinMap.{from_entries};
+    ghost use Rattle.std.specs.HashMap.{spare};
+    ghost use Rattle.needle_index.specs.Index.{Index, index_code};
+
+    ghost Value = { Index };
+
+    ghost coded = { index_code };
+
+    ghost view = { λ slots. record { spots = from_entries slots.map.entries; spare = spare slots.map } };
+}
+
+impl Slots {
+    pub fn new(alloc: Global) -> Slots
+        ensures { result.spots ≡ empty }
+    {
+        Slots {
+            map: HashMap::new(alloc),
+        }
+    }
+
+    pub fn get(&self, key: u64) -> Option<Spot>
+        ensures { result ≡ get self.now.spots key }
+    {
+        self.map.get(&key).copied()
+    }
+
+    pub fn reserve(&mut self, puts: usize) -> Result<(), AllocError>
+        ensures spots { self.new.spots ≡ self.old.spots }
+        ensures ok { OnOk result (puts ≤ self.new.spare) }
+        ensures spare { self.old.spare ≤ self.new.spare }
+    {
+        self.map.reserve(puts)
+    }
+
+    pub fn insert(&mut self, key: u64, spot: Spot) -> Result<Option<Spot>, AllocError>
+        ensures former { IfOk result (λ former. former ≡ get self.old.spots key) }
+        ensures ok { OnOk result (self.new.spots ≡ insert self.old.spots key spot) }
+        ensures err { OnErr result (self.new.spots ≡ self.old.spots) }
+        ensures succeeds { 0 < self.old.spare → IsOk result }
+        ensures spare { self.old.spare ≤ self.new.spare + 1 }
+    {
+        Ok(self.map.insert(key, spot)?)
+    }
+
+    pub fn remove(&mut self, key: u64) -> Option<Spot>
+        ensures former { result ≡ get self.old.spots key }
+        ensures spots { self.new.spots ≡ remove self.old.spots key }
+        ensures spare { self.old.spare ≤ self.new.spare }
+    {
+        self.map.remove(&key)
+    }
+}
