@@ -1,0 +1,11 @@
+pub mod ListLemmas
+pub mod WrittenLemmas
+pub mod ReadingLemmas
+pub mod HeadLemmas
+pub mod InboxLemmas
+pub mod NameLemmas
+pub mod ReplyLemmas
+pub mod SessionLemmas
+pub mod FilerLemmas
+pub mod ReplayLemmas
+pub mod RunLemmas

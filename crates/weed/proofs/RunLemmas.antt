@@ -1,0 +1,59 @@
+-- From a whole run to its session.
+use Rattle.std.proofs.Common.{◌≡◌, ◌⊎◌, ℕ, List, [], ◌++◌, Option, Some, None, refl, sym, ap, ◌∙◌, subst, inl, inr}
+use Rattle.std.specs.Prelude.{IfSome, IsSomeAnd}
+use Rattle.std.specs.Option.{option_map}
+use Rattle.weed_base.specs.Files.{Files, BothTold}
+use Rattle.name_core.specs.declared.change.Record.{Record}
+use Rattle.meta_log.specs.Kept.{IsRecordLog, HoldsRecordLog}
+use Rattle.weed.specs.Inbox.{left_of}
+use Rattle.weed.specs.Filer.{IsFiledFrom, TellsFiler}
+use Rattle.weed.specs.Session.{State, Rests, Stands}
+use Rattle.weed.specs.Tells.{Tells, Ends, IsSessionEnd}
+use Rattle.weed.specs.Run.{Starts, Begins, EndsRun, IsEarly, IfDamagedExit}
+use Rattle.weed.specs.declared.exit.Exit.{Exit}
+use Rattle.weed.specs.declared.exit.Exit.TheVariants as exit
+use Rattle.weed.specs.declared.session.Session.{Session}
+use Rattle.weed.specs.declared.plain_filer.PlainFiler.{PlainFiler}
+
+filed_tells : (old new : Option Files) (filer : PlainFiler) (log : List Record) → IsSomeAnd old (λ told. IsRecordLog told log) → IfSome old (λ files. IsFiledFrom files new filer) → TellsFiler new filer log
+filed_tells None new filer log there filed = absurd there
+filed_tells (Some files) new filer log there filed = filed.holds log there
+
+-- A session that has begun tells the state that the run started from.
+pub begun_tells : (left sent sent' : Option (List ℕ)) (old new : Option Files) (clock : Option (List ℕ)) (session : Session) (first : State)
+    → Starts left sent old clock first → Begins old new session → sent' ≡ sent → Tells left sent' new clock session first
+begun_tells left sent sent' old new clock session first starts begins same = record {
+  left_is = ap (λ pending. left_of pending left) begins.empty ∙ ap (left_of []) starts.left_is;
+  sent_is = same ∙ starts.stands.sent_is;
+  filer = filed_tells old new session.filer first.log starts.stands.log_is begins.filed;
+  moments_are = starts.stands.moments_are;
+}
+
+still_log : (R : Files → Files → Type 0) (old new : Option Files) (log : List Record) → BothTold R old new → (HoldsRecordLog old log → HoldsRecordLog new log)
+    → IsSomeAnd old (λ told. IsRecordLog told log) → IsSomeAnd new (λ told. IsRecordLog told log)
+still_log R None new log both kept there = absurd there
+still_log R (Some files) None log both kept there = absurd both
+still_log R (Some files) (Some files') log both kept there = kept there
+
+-- A run that ended before its session leaves what it started from.
+pub early_ends : (R : Files → Files → Type 0) (left sent sent' : Option (List ℕ)) (old new : Option Files) (clock : Option (List ℕ)) (end : Exit) (first : State)
+    → Starts left sent old clock first → IsEarly end → BothTold R old new → ((records : List Record) → HoldsRecordLog old records → HoldsRecordLog new records) → sent' ≡ sent
+    → (last : State) × Stands sent' new clock last × EndsRun end first last
+early_ends R left sent sent' old new clock end first starts early both kept same = (
+  first,
+  record { sent_is = same ∙ starts.stands.sent_is; log_is = still_log R old new first.log both (kept first.log) starts.stands.log_is; moments_are = starts.stands.moments_are },
+  inr (early, record { sent = refl; log = refl; moments = refl }),
+)
+
+pub session_is_sound : (P : List ℕ → ℕ → Type 0) (end : Exit) → IsSessionEnd end → IfDamagedExit P end
+session_is_sound P exit.Done ends = ends
+session_is_sound P exit.ReadFault ends = ends
+session_is_sound P exit.WriteFault ends = ends
+session_is_sound P exit.DiskFault ends = ends
+session_is_sound P exit.TurnsSpent ends = ends
+session_is_sound P exit.Memory ends = absurd ends
+session_is_sound P (exit.BadWords place) ends = absurd ends
+session_is_sound P (exit.Damaged file at) ends = absurd ends
+
+pub session_has_words : (end : Exit) (place : ℕ) → IsSessionEnd end → end ≡ exit.BadWords place → ⊥
+session_has_words end place ends is = subst IsSessionEnd is ends

@@ -1,0 +1,28 @@
+-- One write after another.
+use Rattle.std.proofs.Common.{◌≡◌, ℕ, ◌+◌, min, List, ◌++◌, length, take, drop, Option, Some, None, sym, ap, subst, ◌∙◌, arith, append_assoc}
+use Rattle.std.proofs.lemmas.List.{take_min, take-append-le}
+use Rattle.std.proofs.Math.Seq.{take-append-add}
+use Rattle.std.specs.Option.{option_map}
+use Rattle.weed.proofs.ListLemmas.{take-add}
+use Rattle.weed_base.specs.Told.{Appends}
+use Rattle.weed.specs.Written.{AppendsFront}
+
+-- the bytes of one write behind those of another
+pub appends_both : (old mid new : Option (List ℕ)) (xs ys : List ℕ) → Appends old mid xs → Appends mid new ys → Appends old new (xs ++ ys)
+appends_both None mid new xs ys first second = second ∙ ap (option_map (λ written. written ++ ys)) first
+appends_both (Some text) mid new xs ys first second =
+    second ∙ ap (option_map (λ written. written ++ ys)) first ∙ ap Some (append_assoc text xs ys)
+
+-- the bytes of one write behind first ones
+pub appends_more : (old mid new : Option (List ℕ)) (bytes : List ℕ) (m n : ℕ) → Appends old mid (take m bytes) → Appends mid new (take n (drop m bytes)) → Appends old new (take (m + n) bytes)
+appends_more old mid new bytes m n first second =
+    let both = appends_both old mid new (take m bytes) (take n (drop m bytes)) first second in
+    subst (Appends old new) (sym (take-add m n bytes)) both
+
+-- the bytes of one write behind some first bytes of those of another, whatever was to follow
+pub front_behind : (old mid new : Option (List ℕ)) (xs ys zs : List ℕ) → Appends old mid xs → AppendsFront mid new ys → AppendsFront old new (xs ++ (ys ++ zs))
+front_behind old mid new xs ys zs first (count, second) =
+    let n = min count (length ys) in
+    let cut : take (length xs + n) (xs ++ (ys ++ zs)) ≡ xs ++ take count ys =
+    take-append-add xs (ys ++ zs) n ∙ ap (λ rest. xs ++ rest) (take-append-le n ys zs (omega arith) ∙ take_min count ys) in
+    (length xs + n, subst (Appends old new) (sym cut) (appends_both old mid new xs (take count ys) first second))

@@ -1,0 +1,57 @@
+-- A filer over a plain list of names: its log, and the namespace that the log stands for.
+use Rattle.std.specs.Prelude.{◌≡◌, ◌⊎◌, List, [], ◌∷◌, ◌++◌, Option, IfSome, IsSomeAnd, Result, Ok, Err}
+use Rattle.weed_base.specs.Files.{Files}
+use Rattle.name_core.specs.declared.change.Record.{Record}
+use Rattle.name_core.specs.Log.{fold}
+use Rattle.name_core.specs.Plan.{Planned, Recorded, Nothing, Refused}
+use Rattle.meta_log.specs.Kept.{IsKept, IsRecordLog}
+use Rattle.meta_log.specs.declared.meta_log.MetaLog.{MetaLog}
+use Rattle.weed.specs.NameList.{names_of}
+use Rattle.weed.specs.declared.plain_filer.PlainFiler.{PlainFiler}
+use Rattle.weed.specs.declared.plain_filer.MakeFault.{MakeFault}
+use Rattle.weed.specs.declared.plain_filer.MakeFault.TheVariants as fault
+
+-- The log that a filer adds to
+abbrev pub log_of : PlainFiler → MetaLog
+log_of filer = filer.log
+
+-- The files hold the filer with these records, and its names are their fold.
+pub record IsFiled (files : Files) (filer : PlainFiler) (records : List Record) : Type 0 where
+  pub log : IsKept files filer.log records
+  pub names : names_of filer.names ≡ fold records
+
+-- The disk, where told, holds the filer with these records.
+abbrev pub HoldsFiler : Option Files → PlainFiler → List Record → Type 0
+HoldsFiler told filer records = IfSome told (λ files. IsFiled files filer records)
+
+-- The disk is told and holds the filer with these records.
+abbrev pub TellsFiler : Option Files → PlainFiler → List Record → Type 0
+TellsFiler told filer records = IsSomeAnd told (λ files. IsFiled files filer records)
+
+-- The files were a log of records, and the disk is told and holds the filer with the same.
+pub record IsFiledFrom (files : Files) (told : Option Files) (filer : PlainFiler) : Type 0 where
+  pub found : (records : List Record) × IsRecordLog files records
+  pub holds : (records : List Record) → IsRecordLog files records → TellsFiler told filer records
+
+-- The disk is told, and is a log of the records or of them with more behind.
+abbrev pub TellsEither : Option Files → List Record → List Record → Type 0
+TellsEither told records more = IsSomeAnd told (λ files. IsRecordLog files records ⊎ IsRecordLog files (records ++ more))
+
+-- The records that a plan adds
+abbrev pub added_by : Planned → List Record
+added_by (Recorded made) = made ∷ []
+added_by Nothing = []
+added_by (Refused refusal) = []
+
+-- A plan that isn't refused
+abbrev pub IsAccepted : Planned → Type 0
+IsAccepted (Recorded made) = Unit {0}
+IsAccepted Nothing = Unit {0}
+IsAccepted (Refused refusal) = ⊥
+
+-- What a command leaves of a filer with these records, by its plan.
+abbrev pub Makes : Planned → List Record → Option Files → PlainFiler → Result (Unit {0}) MakeFault → Type 0
+Makes plan records told filer (Ok done) = IsAccepted plan × TellsFiler told filer (records ++ added_by plan)
+Makes plan records told filer (Err (fault.Refused refusal)) = (plan ≡ Refused refusal) × TellsFiler told filer records
+Makes plan records told filer (Err fault.DiskFault) = TellsEither told records (added_by plan)
+Makes plan records told filer (Err fault.Memory) = TellsFiler told filer records

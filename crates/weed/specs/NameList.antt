@@ -1,0 +1,13 @@
+-- The namespace that a list of changes stands for, and the room in it.
+use Rattle.std.specs.Prelude.{◌≡◌, ◌≢◌, ℕ, ◌-◌, List, [], Some, None, vec_capacity, vec_len}
+use Rattle.std.specs.FinMap.{empty, get}
+use Rattle.name_core.specs.declared.change.Change.{Change}
+use Rattle.name_core.specs.Namespace.{Namespace, step, after_changes}
+use Rattle.weed.specs.declared.name_list.NameList.{NameList}
+
+abbrev pub names_of : NameList → Namespace
+names_of names = after_changes names.changes.items empty
+
+-- How many changes fit before memory is needed
+abbrev pub spare_of : NameList → ℕ
+spare_of names = vec_capacity names.changes - vec_len names.changes

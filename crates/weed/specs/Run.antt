@@ -1,0 +1,54 @@
+-- A whole run: what is told of the outside before it and after it.
+use Rattle.std.specs.Prelude.{◌≡◌, ◌⊎◌, ℕ, List, [], Option, Some, IfSome, IsSomeAnd, ⊤}
+use Rattle.meta_log.specs.declared.fault.LogFault.{LogFault}
+use Rattle.meta_log.specs.declared.fault.LogFault.TheVariants as fault
+use Rattle.weed.specs.Filer.{IsFiledFrom}
+use Rattle.weed.specs.declared.session.Session.{Session}
+use Rattle.weed_base.specs.Files.{Files}
+use Rattle.meta_log.specs.Kept.{IsRecordLog}
+use Rattle.weed.specs.Session.{State, Rests, Stands}
+use Rattle.weed.specs.Tells.{Ends}
+use Rattle.weed.specs.declared.exit.Exit.{Exit}
+use Rattle.weed.specs.declared.exit.Exit.TheVariants as exit
+
+-- The outside is told, and has this of a state: the input, what was sent, the log that the disk reads as, and
+-- the moments to come.
+pub record Starts (left sent : Option (List ℕ)) (files : Option Files) (moments : Option (List ℕ)) (state : State) : Type 0 where
+  pub left_is : left ≡ Some state.left
+  pub stands : Stands sent files moments state
+
+-- A session has begun: nothing is read yet, and it has a filer of the records that the disk had.
+pub record Begins (old new : Option Files) (session : Session) : Type 0 where
+  pub empty : session.inbox.pending ≡ []
+  pub filed : IfSome old (λ files. IsFiledFrom files new session.filer)
+
+-- How a run ends where its log wasn't opened
+abbrev pub exit_of_fault : LogFault → Exit
+exit_of_fault fault.DiskFault = exit.DiskFault
+exit_of_fault (fault.Damaged file at) = exit.Damaged file at
+exit_of_fault fault.Memory = exit.Memory
+
+-- A run ends as its session does, or before it: by the disk, by want of memory, or by a damaged log.
+abbrev pub IsEarly : Exit → Type 0
+IsEarly exit.DiskFault = ⊤
+IsEarly exit.Memory = ⊤
+IsEarly (exit.Damaged file at) = ⊤
+IsEarly exit.Done = ⊥
+IsEarly exit.ReadFault = ⊥
+IsEarly exit.WriteFault = ⊥
+IsEarly exit.TurnsSpent = ⊥
+IsEarly (exit.BadWords place) = ⊥
+
+abbrev pub EndsRun : Exit → State → State → Type 0
+EndsRun end first last = Ends end first last ⊎ (IsEarly end × Rests first last)
+
+-- Where it is damage, its file and place are so.
+abbrev pub IfDamagedExit : (List ℕ → ℕ → Type 0) → Exit → Type 0
+IfDamagedExit P (exit.Damaged file at) = P file at
+IfDamagedExit P exit.DiskFault = ⊤
+IfDamagedExit P exit.Memory = ⊤
+IfDamagedExit P exit.Done = ⊤
+IfDamagedExit P exit.ReadFault = ⊤
+IfDamagedExit P exit.WriteFault = ⊤
+IfDamagedExit P exit.TurnsSpent = ⊤
+IfDamagedExit P (exit.BadWords place) = ⊤

@@ -1,0 +1,117 @@
+-- A session: the requests of an input, each answered over the log that the ones before it left.
+use Rattle.std.specs.Prelude.{◌≡◌, ◌≢◌, ℕ, zero, suc, ◌+◌, ◌^◌, ◌<◌, ◌≤◌, ◌⊎◌, Bool, true, false, List, [], ◌∷◌, ◌++◌, take, Option, Some, IsSomeAnd, codes}
+use Rattle.weed_base.specs.Files.{Files}
+use Rattle.weed_base.specs.Moments.{first_moment, later_moments}
+use Rattle.name_core.specs.declared.change.Record.{Record}
+use Rattle.meta_log.specs.Kept.{IsRecordLog}
+use Rattle.weed.specs.Request.{IsRequest}
+use Rattle.weed.specs.Inbox.{IsNoRequest}
+use Rattle.weed.specs.Reply.{Answering, IsReply, moments_after}
+use Rattle.weed.specs.Answer.{refused_text}
+use Rattle.weed.specs.declared.answer.Status.TheVariants.{InternalServerError, NotImplemented, ServiceUnavailable}
+use Rattle.weed.specs.declared.exit.Exit.{Exit}
+use Rattle.weed.specs.declared.exit.Exit.TheVariants as exit
+
+-- What is told of a session between two requests: the input left, the bytes sent, the log, and the moments
+-- that the clock is going to give
+pub record State : Type 0 where
+  pub left : List ℕ
+  pub sent : List ℕ
+  pub log : List Record
+  pub moments : List ℕ
+
+-- How many requests a session answers at most
+abbrev pub most_turns : ℕ
+most_turns = 2 ^ 40
+
+abbrev pub memory_answer : List ℕ
+memory_answer = refused_text ServiceUnavailable (codes "Memory") false
+
+abbrev pub disk_answer : List ℕ
+disk_answer = refused_text InternalServerError (codes "DiskFault") true
+
+abbrev pub not_yet_answer : List ℕ
+not_yet_answer = refused_text NotImplemented (codes "NotYet") true
+
+-- A request for the target stands in front of the input, and this rest behind it.
+pub record Requests (left target rest : List ℕ) : Type 0 where
+  pub text : List ℕ
+  pub request : IsRequest text target
+  pub stands : left ≡ text ++ rest
+
+-- A request is answered by its reply: with what is then left, the log and the moments.
+pub record Replies (old : State) (rest answer : List ℕ) (closes : Bool) (log : List Record) (moments : List ℕ) : Type 0 where
+  pub target : List ℕ
+  pub says : Answering
+  pub asked : Requests old.left target rest
+  pub reply : IsReply old.log (first_moment old.moments) target says
+  pub answer_is : answer ≡ says.answer
+  pub closes_is : closes ≡ says.closes
+  pub log_is : log ≡ old.log ++ says.added
+  pub moments_are : moments ≡ moments_after says old.moments
+
+-- A request is answered 503 for want of memory: nothing is changed, but a moment may be gone.
+pub record Lacks (old : State) (rest answer : List ℕ) (closes : Bool) (log : List Record) (moments : List ℕ) : Type 0 where
+  pub target : List ℕ
+  pub asked : Requests old.left target rest
+  pub answer_is : answer ≡ memory_answer
+  pub closes_is : closes ≡ false
+  pub log_is : log ≡ old.log
+  pub moments_are : (moments ≡ old.moments) ⊎ (moments ≡ later_moments old.moments)
+
+-- What is no request is answered 501, which closes.
+pub record Refuses (old : State) (rest answer : List ℕ) (closes : Bool) (log : List Record) (moments : List ℕ) : Type 0 where
+  pub asked : IsNoRequest old.left
+  pub rest_is : rest ≡ old.left
+  pub answer_is : answer ≡ not_yet_answer
+  pub closes_is : closes ≡ true
+  pub log_is : log ≡ old.log
+  pub moments_are : moments ≡ old.moments
+
+-- What stands in front of the input is answered so.
+abbrev pub Answers : State → List ℕ → List ℕ → Bool → List Record → List ℕ → Type 0
+Answers old rest answer closes log moments =
+    Replies old rest answer closes log moments ⊎ Lacks old rest answer closes log moments ⊎ Refuses old rest answer closes log moments
+
+-- One request, whose answer was sent whole, and after which the session goes on
+abbrev pub Turn : State → State → Type 0
+Turn old new = (answer : List ℕ) × Answers old new.left answer false new.log new.moments × (new.sent ≡ old.sent ++ answer)
+
+-- So many requests, each over what the ones before it left
+unfoldable pub Turns : ℕ → State → State → Type 0
+Turns zero old new = new ≡ old
+Turns (suc count) old new = (middle : State) × Turns count old middle × Turn middle new
+
+-- Nothing more was sent, appended or asked for.
+pub record Rests (old last : State) : Type 0 where
+  pub sent : last.sent ≡ old.sent
+  pub log : last.log ≡ old.log
+  pub moments : last.moments ≡ old.moments
+
+-- How a session ends where so many requests were answered whole:
+abbrev pub EndsAfter : Exit → State → State → Type 0
+-- at the end of the input, or with an answer that closes
+EndsAfter exit.Done old last =
+    ((old.left ≡ []) × Rests old last)
+    ⊎ ((answer rest : List ℕ) × Answers old rest answer true last.log last.moments × (last.sent ≡ old.sent ++ answer))
+-- before the next request was read
+EndsAfter exit.ReadFault old last = Rests old last
+-- with a front of the answer that was due
+EndsAfter exit.WriteFault old last =
+    (answer rest : List ℕ) × (closes : Bool) × (count : ℕ) × Answers old rest answer closes last.log last.moments
+    × (last.sent ≡ old.sent ++ take count answer)
+-- with a front of the answer 500, and with the records of the request that met the fault in the log or not
+EndsAfter exit.DiskFault old last =
+    (target rest : List ℕ) × (says : Answering) × (count : ℕ) × Requests old.left target rest
+    × IsReply old.log (first_moment old.moments) target says × (last.sent ≡ old.sent ++ take count disk_answer)
+    × ((last.log ≡ old.log) ⊎ (last.log ≡ old.log ++ says.added)) × (last.moments ≡ moments_after says old.moments)
+EndsAfter (exit.BadWords place) old last = ⊥
+EndsAfter (exit.Damaged file at) old last = ⊥
+EndsAfter exit.Memory old last = ⊥
+EndsAfter exit.TurnsSpent old last = ⊥
+
+-- The outside is told, and has this of a state: what was sent, the log, and the moments.
+pub record Stands (sent : Option (List ℕ)) (files : Option Files) (moments : Option (List ℕ)) (state : State) : Type 0 where
+  pub sent_is : sent ≡ Some state.sent
+  pub log_is : IsSomeAnd files (λ told. IsRecordLog told state.log)
+  pub moments_are : moments ≡ Some state.moments

@@ -1,0 +1,65 @@
+-- What a session and its outside tell between two requests.
+use Rattle.std.specs.Prelude.{◌≡◌, ℕ, ◌<◌, ◌⊎◌, Bool, true, false, List, Option, Some, MatchResult, ⊤}
+use Rattle.weed_base.specs.Told.{Appends}
+use Rattle.weed_base.specs.Files.{Files}
+use Rattle.weed.specs.Written.{AppendsFront}
+use Rattle.weed.specs.Inbox.{left_of}
+use Rattle.weed.specs.Filer.{TellsFiler}
+use Rattle.weed.specs.Session.{State, Turn, Turns, Requests, EndsAfter, Stands, most_turns}
+use Rattle.weed.specs.declared.exit.Exit.{Exit}
+use Rattle.weed.specs.declared.exit.Exit.TheVariants as exit
+use Rattle.weed.specs.declared.session.Session.{Session}
+use Rattle.weed.specs.declared.session.Turned.{Turned}
+use Rattle.weed.specs.declared.session.Turned.TheVariants.{Open, Ended}
+
+-- The outside is told, and the session and it have this of a state.
+pub record Tells (left sent : Option (List ℕ)) (files : Option Files) (moments : Option (List ℕ)) (session : Session) (state : State) : Type 0 where
+  pub left_is : left_of session.inbox.pending left ≡ Some state.left
+  pub sent_is : sent ≡ Some state.sent
+  pub filer : TellsFiler files session.filer state.log
+  pub moments_are : moments ≡ Some state.moments
+
+-- The same where a request for the inbox's target was just taken from the front of the input.
+pub record Asking (old : State) (rest : List ℕ) (left sent : Option (List ℕ)) (files : Option Files) (moments : Option (List ℕ)) (session : Session) : Type 0 where
+  pub asked : Requests old.left session.inbox.target rest
+  pub left_is : left_of session.inbox.pending left ≡ Some rest
+  pub sent_is : sent ≡ Some old.sent
+  pub filer : TellsFiler files session.filer old.log
+  pub moments_are : moments ≡ Some old.moments
+
+-- An answer was sent, and the session goes on or ends by whether it closes; or a front of it was sent.
+abbrev pub Sends : List ℕ → Bool → Option (List ℕ) → Option (List ℕ) → Turned → Type 0
+Sends answer closes old new Open = Appends old new answer × (closes ≡ false)
+Sends answer closes old new (Ended exit.Done) = Appends old new answer × (closes ≡ true)
+Sends answer closes old new (Ended exit.WriteFault) = AppendsFront old new answer
+Sends answer closes old new (Ended exit.ReadFault) = ⊥
+Sends answer closes old new (Ended exit.DiskFault) = ⊥
+Sends answer closes old new (Ended (exit.BadWords place)) = ⊥
+Sends answer closes old new (Ended (exit.Damaged file at)) = ⊥
+Sends answer closes old new (Ended exit.Memory) = ⊥
+Sends answer closes old new (Ended exit.TurnsSpent) = ⊥
+
+-- From a state a turn led to another one, or the session ended as it says.
+abbrev pub Leads : State → Option (List ℕ) → Option (List ℕ) → Option Files → Option (List ℕ) → Session → Turned → Type 0
+Leads old left sent files moments session Open = (new : State) × Tells left sent files moments session new × Turn old new
+Leads old left sent files moments session (Ended end) = (last : State) × Stands sent files moments last × EndsAfter end old last
+
+-- How a run of turns ended: after as many requests as a session answers, or before that.
+abbrev pub Ends : Exit → State → State → Type 0
+Ends exit.TurnsSpent first last = Turns most_turns first last
+Ends end first last = (count : ℕ) × (middle : State) × (count < most_turns) × Turns count first middle × EndsAfter end middle last
+
+-- The ends that a session has of itself: the log was opened, and the words were good.
+abbrev pub IsSessionEnd : Exit → Type 0
+IsSessionEnd exit.Done = ⊤
+IsSessionEnd exit.ReadFault = ⊤
+IsSessionEnd exit.WriteFault = ⊤
+IsSessionEnd exit.DiskFault = ⊤
+IsSessionEnd exit.TurnsSpent = ⊤
+IsSessionEnd exit.Memory = ⊥
+IsSessionEnd (exit.BadWords place) = ⊥
+IsSessionEnd (exit.Damaged file at) = ⊥
+
+abbrev pub IsTurnEnd : Turned → Type 0
+IsTurnEnd Open = ⊤
+IsTurnEnd (Ended end) = IsSessionEnd end

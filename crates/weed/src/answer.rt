@@ -1,0 +1,139 @@
+ghost use Rattle.std.specs.Prelude.{◌≡◌, IfOk, string_bytes};
+ghost use Rattle.std.specs.List.{flat_map};
+ghost use Rattle.weed.specs.Answer.{ended, closing_lines, code_of, reason_of, object_text, answer_text, created_text, refused_text};
+
+use serde_json::json;
+use std::alloc::{AllocError, Global};
+use weed_base::Bytes;
+
+/// What an answer says of its request.
+#[derive(Clone, Copy, Debug, PartialEq, Eq)]
+pub enum Status {
+    Created,
+    BadRequest,
+    Conflict,
+    InternalServerError,
+    NotImplemented,
+    ServiceUnavailable,
+}
+
+impl Status {
+    /// Its number. Takes no memory.
+    pub fn code(&self) -> u16
+        ensures { result ≡ code_of self.now }
+    {
+        match self {
+            Status::Created => 201,
+            Status::BadRequest => 400,
+            Status::Conflict => 409,
+            Status::InternalServerError => 500,
+            Status::NotImplemented => 501,
+            Status::ServiceUnavailable => 503,
+        }
+    }
+
+    /// Its words. Takes no memory.
+    pub fn reason(&self) -> &'static str
+        ensures { result.now ≡ reason_of self.now }
+    {
+        match self {
+            Status::Created => "Created",
+            Status::BadRequest => "Bad Request",
+            Status::Conflict => "Conflict",
+            Status::InternalServerError => "Internal Server Error",
+            Status::NotImplemented => "Not Implemented",
+            Status::ServiceUnavailable => "Service Unavailable",
+        }
+    }
+}
+
+/// The answer that a directory of that name was made.
+pub fn created(alloc: Global, name: &str) -> Result<Bytes, AllocError>
+    ensures { IfOk result (λ answer. answer ≡ created_text name.now) }
+{
+    let json = one_member(alloc, "name", name)?;
+    answer(alloc, Status::Created, json.as_str(), false)
+}
+
+/// A refusal, or a fault, with that text. It may close the connection.
+pub fn refused(alloc: Global, status: Status, text: &str, close: bool) -> Result<Bytes, AllocError>
+    ensures { IfOk result (λ answer. answer ≡ refused_text status text.now close) }
+{
+    let json = one_member(alloc, "error", text)?;
+    answer(alloc, status, json.as_str(), close)
+}
+
+/// The JSON of an object with one member.
+fn one_member(alloc: Global, name: &str, value: &str) -> Result<String, AllocError>
+    ensures { IfOk result (λ json. string_bytes json ≡ object_text name.now value.now) }
+{
+    json!(in alloc; {name: value})?.to_string(alloc)
+}
+
+fn answer(alloc: Global, status: Status, json: &str, close: bool) -> Result<Bytes, AllocError>
+    ensures { IfOk result (λ answer. answer ≡ answer_text status json.now close) }
+{
+    let code = status.code();
+    let reason = status.reason();
+    let length = json.len();
+    let closing = closing_line(close);
+    let text = format!(in alloc;
+        "HTTP/1.1 {code} {reason}\r\nContent-Type: application/json\r\nContent-Length: {length}\r\n{closing}\r\n{json}"
+    )?;
+    Ok(Bytes::of(text.into_bytes()))
+}
+
+fn closing_line(close: bool) -> &'static str
+    ensures { result.now ≡ flat_map ended (closing_lines close) }
+{
+    if close { "Connection: close\r\n" } else { "" }
+}
+
+#[cfg(test)]
+mod tests {
+    use super::*;
+    use std::test::Fail;
+
+    #[test]
+    fn a_directory_was_made(rt: HostRuntime) -> Result<(), Fail> {
+        let answer = created(rt.alloc(), "b")?;
+        let text =
+            "HTTP/1.1 201 Created\r\nContent-Type: application/json\r\nContent-Length: 12\r\n\r\n{\"name\":\"b\"}";
+        assert_eq!(rt; answer.as_slice(), text.as_bytes());
+        Ok(())
+    }
+
+    #[test]
+    fn a_refusal_closes(rt: HostRuntime) -> Result<(), Fail> {
+        let answer = refused(rt.alloc(), Status::BadRequest, "DotPart", true)?;
+        let text =
+            "HTTP/1.1 400 Bad Request\r\nContent-Type: application/json\r\nContent-Length: 19\r\nConnection: close\r\n\r\n{\"error\":\"DotPart\"}";
+        assert_eq!(rt; answer.as_slice(), text.as_bytes());
+        Ok(())
+    }
+
+    #[test]
+    fn a_name_is_escaped(rt: HostRuntime) -> Result<(), Fail> {
+        let answer = created(rt.alloc(), "a\"\n")?;
+        let text =
+            "HTTP/1.1 201 Created\r\nContent-Type: application/json\r\nContent-Length: 16\r\n\r\n{\"name\":\"a\\\"\\n\"}";
+        assert_eq!(rt; answer.as_slice(), text.as_bytes());
+        Ok(())
+    }
+
+    #[test]
+    fn each_status_has_its_words(rt: HostRuntime) {
+        let table = [
+            (Status::Created, 201, "Created"),
+            (Status::BadRequest, 400, "Bad Request"),
+            (Status::Conflict, 409, "Conflict"),
+            (Status::InternalServerError, 500, "Internal Server Error"),
+            (Status::NotImplemented, 501, "Not Implemented"),
+            (Status::ServiceUnavailable, 503, "Service Unavailable"),
+        ];
+        for (status, code, reason) in table {
+            assert_eq!(rt; status.code(), code);
+            assert_eq!(rt; status.reason(), reason);
+        }
+    }
+}

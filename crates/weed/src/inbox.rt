@@ -1,0 +1,299 @@
+ghost use Rattle.std.specs.Prelude.{◌≡◌, ◌+◌, ◌-◌, ◌<◌, ◌≤◌, List, ℕ, [], ◌++◌, length, take, drop, IfOk, IfSome, IfNone, MatchResult};
+ghost use Rattle.weed_base.specs.Told.{Reads, Consumes, IsAtEnd, HasCause};
+ghost use Rattle.weed.specs.Span.{part_at};
+ghost use Rattle.weed.specs.HeadEnd.{HasNoEndBelow, IsHeadLength};
+ghost use Rattle.weed.specs.Inbox.{left_of, Finds, Takes, Adds};
+
+use crate::request::{MAX_HEAD, read_request};
+use memchr::memmem;
+use std::alloc::{AllocError, Global};
+use std::marker::Model;
+use weed_base::{Failed, Source};
+
+const CAPACITY: usize = 32_768;
+
+const METHOD_LENGTH: usize = "POST ".len();
+
+/// What stands at the front of the bytes left.
+#[derive(Clone, Copy, Debug, PartialEq, Eq)]
+pub enum Head {
+    /// Nothing is left.
+    End,
+    /// A request.
+    Request,
+    /// Something else, which is not yet served.
+    NotYet,
+}
+
+/// A part of the buffer.
+#[derive(Clone, Copy, Debug)]
+struct Span {
+    start: usize,
+    end: usize,
+}
+
+/// The bytes that a source gave ahead of their use, and the target of the last request among them.
+#[derive(Debug, Drop)]
+pub struct Inbox {
+    buffer: Vec<u8>,
+    target: Span,
+    pending: Span,
+}
+
+impl Model for Inbox {
+    ghost use Rattle.std.specs.Prelude.{◌≡◌, ◌≤◌, length};
+    ghost use Rattle.weed.specs.Span.{part_at};
+    ghost use Rattle.weed.specs.Inbox.{InboxState};
+
+    ghost Value = { InboxState };
+
+    ghost view = { λ inbox. record { target = part_at inbox.target inbox.buffer.items; pending = part_at inbox.pending inbox.buffer.items } };
+
+    ghost invariant = { λ inbox. (length inbox.buffer.items ≡ 32768)
+        × (inbox.target.start ≤ inbox.target.end) × (inbox.target.end ≤ 32768)
+        × (inbox.pending.start ≤ inbox.pending.end) × (inbox.pending.end ≤ 32768) };
+}
+
+impl Inbox {
+    /// An inbox of no bytes.
+    pub fn new(alloc: Global) -> Result<Inbox, AllocError>
+        ensures { IfOk result (λ inbox. inbox ≡ record { target = []; pending = [] }) }
+    {
+        let nothing = Span { start: 0, end: 0 };
+        Ok(Inbox {
+            buffer: vec![in alloc; 0; CAPACITY]?,
+            target: nothing,
+            pending: nothing,
+        })
+    }
+
+    /// The target of the request that `next_head` found. Any other find may drop it. Takes no memory.
+    pub fn target(&self) -> &[u8]
+        ensures { result.now ≡ self.now.target }
+    {
+        &self.buffer[self.target.start..self.target.end]
+    }
+
+    fn pending(&self) -> &[u8]
+        ensures { result.now ≡ self.now.pending }
+    {
+        &self.buffer[self.pending.start..self.pending.end]
+    }
+
+    /// Takes so many first bytes, where they are a request.
+    fn take_head(&mut self, count: usize) -> Head
+        requires { count ≤ length self.old.pending }
+        ensures { Takes result self.old self.new count }
+    {
+        let Some(target) = read_request(&self.pending()[..count]) else {
+            return Head::NotYet;
+        };
+        let start = self.pending.start + METHOD_LENGTH;
+        let end = start + target.len();
+        self.target = Span { start, end };
+        self.pending.start += count;
+        Head::Request
+    }
+
+    /// Reads as many bytes as there is room for, and answers how many, 0 only at the end.
+    fn fill<S: Source>(&mut self, from: &mut S) -> Result<usize, Failed>
+        requires { length self.old.pending < 32768 }
+        ensures bytes { MatchResult result
+            (λ count. Adds self.old.pending self.new.pending (S.left from.old) (S.left from.new) count)
+            (λ _. (self.new.pending ≡ self.old.pending) × (S.left from.new ≡ S.left from.old)) }
+        ensures cause { HasCause (S.faults from.old) (S.faults from.new) result }
+    {
+        read_more(from, &mut self.buffer, &mut self.pending)
+    }
+}
+
+/// Finds what stands at the front of the bytes left, those of the inbox before those of the source, and
+/// reads as far as it takes to tell. A request is taken from them, and `Inbox::target` gives its target.
+/// After any other answer, and after a failed read, all bytes are still there. Takes no memory.
+pub fn next_head<S: Source>(from: &mut S, inbox: &mut Inbox) -> Result<Head, Failed>
+    ensures head { MatchResult result
+        (λ head. Finds head (left_of inbox.old.pending (S.left from.old)) (left_of inbox.new.pending (S.left from.new)) inbox.new.target)
+        (λ _. left_of inbox.new.pending (S.left from.new) ≡ left_of inbox.old.pending (S.left from.old)) }
+    ensures cause { HasCause (S.faults from.old) (S.faults from.new) result }
+{
+    let mut searched = 0;
+    loop {
+        if let Some(count) = head_length(inbox.pending(), searched) {
+            return Ok(inbox.take_head(count));
+        }
+        let count = inbox.pending().len();
+        if count >= MAX_HEAD {
+            return Ok(Head::NotYet);
+        }
+        searched = count.saturating_sub(2);
+        if inbox.fill(from)? == 0 {
+            return Ok(if count == 0 { Head::End } else { Head::NotYet });
+        }
+    }
+}
+
+/// Reads behind the part, and adds to it what was read.
+fn read_more<S: Source>(from: &mut S, buffer: &mut [u8], part: &mut Span) -> Result<usize, Failed>
+    requires buffer { length buffer.old ≡ 32768 }
+    requires ordered { part.old.start ≤ part.old.end }
+    requires within { part.old.end ≤ 32768 }
+    requires short { part.old.end - part.old.start < 32768 }
+    ensures bytes { MatchResult result
+        (λ count. Adds (part_at part.old buffer.old) (part_at part.new buffer.new) (S.left from.old) (S.left from.new) count)
+        (λ _. (part_at part.new buffer.new ≡ part_at part.old buffer.old) × (S.left from.new ≡ S.left from.old)) }
+    ensures ordered { part.new.start ≤ part.new.end }
+    ensures within { part.new.end ≤ 32768 }
+    ensures cause { HasCause (S.faults from.old) (S.faults from.new) result }
+{
+    *part = make_room(buffer, *part);
+    let count = read_behind(from, buffer, part.end)?;
+    part.end += count;
+    Ok(count)
+}
+
+/// Moves the part to the front of the buffer, where it stands at its end or is empty.
+fn make_room(buffer: &mut [u8], part: Span) -> Span
+    requires buffer { length buffer.old ≡ 32768 }
+    requires ordered { part.start ≤ part.end }
+    requires within { part.end ≤ 32768 }
+    requires short { part.end - part.start < 32768 }
+    ensures part { part_at result buffer.new ≡ part_at part buffer.old }
+    ensures ordered { result.start ≤ result.end }
+    ensures room { result.end < 32768 }
+{
+    if part.start < part.end && part.end < CAPACITY {
+        return part;
+    }
+    buffer.copy_within(part.start..part.end, 0);
+    Span {
+        start: 0,
+        end: part.end - part.start,
+    }
+}
+
+/// Reads into the room behind `end`.
+fn read_behind<S: Source>(from: &mut S, buffer: &mut [u8], end: usize) -> Result<usize, Failed>
+    requires { end ≤ length buffer.old }
+    ensures bytes { Reads (S.left from.old) (S.left from.new) result (drop end buffer.new) }
+    ensures front { take end buffer.new ≡ take end buffer.old }
+    ensures cause { HasCause (S.faults from.old) (S.faults from.new) result }
+{
+    from.read(&mut buffer[end..])
+}
+
+/// How many bytes stand up to the end of the first empty line, where none ends a line below `searched`.
+fn head_length(bytes: &[u8], searched: usize) -> Option<usize>
+    requires within { searched ≤ length bytes.now }
+    requires searched { HasNoEndBelow bytes.now searched }
+    ensures found { IfSome result (λ count. IsHeadLength bytes.now count) }
+    ensures none { IfNone result (HasNoEndBelow bytes.now (length bytes.now)) }
+{
+    let at = memmem::find(&bytes[searched..], b"\n\r\n")?;
+    Some(searched + at + 3)
+}
+
+#[cfg(test)]
+mod tests {
+    use super::*;
+    use std::process::Abort;
+    use std::test::Fail;
+    use weed_base::MemSource;
+
+    const INPUT: &str =
+        "POST /a/b/ HTTP/1.1\r\nHost: x\r\n\r\nPOST / HTTP/1.1\r\n\r\nPOST /c/ HTTP/1.1\r\nHost: 127.0.0.1:80\r\n\r\n";
+
+    fn source_of(alloc: Global, text: &str, failing: &[u64]) -> Result<MemSource, AllocError> {
+        Ok(MemSource::new(text.as_bytes().to_vec(alloc)?, failing.to_vec(alloc)?))
+    }
+
+    /// The targets of the requests, each on a line of its own, and what stands behind them.
+    fn heads_of(alloc: Global, mut from: MemSource) -> Result<(String, Head), Fail> {
+        let mut inbox = Inbox::new(alloc)?;
+        let mut targets = Vec::new(alloc);
+        for _ in 0..10_000 {
+            let head = next_head(&mut from, &mut inbox)?;
+            if head != Head::Request {
+                return Ok((String::from_utf8(targets)?, head));
+            }
+            targets.extend_from_slice(inbox.target())?;
+            targets.push(b'\n')?;
+        }
+        Err("too many requests".into())
+    }
+
+    #[test]
+    fn pieces_of_any_size_give_the_same_requests(rt: HostRuntime) -> Result<(), Fail> {
+        for most in 1..=INPUT.len() {
+            let source = source_of(rt.alloc(), INPUT, &[])?.with_most(most);
+            let (targets, head) = heads_of(rt.alloc(), source)?;
+            assert_eq!(rt; targets.as_str(), "/a/b/\n/\n/c/\n", "{most} bytes a read");
+            assert_eq!(rt; head, Head::End);
+        }
+        Ok(())
+    }
+
+    #[test]
+    fn requests_go_on_past_the_buffer(rt: HostRuntime) -> Result<(), Fail> {
+        let input = INPUT.repeat(rt.alloc(), 1_000)?;
+        let source = source_of(rt.alloc(), input.as_str(), &[])?.with_most(1_000);
+        let (targets, head) = heads_of(rt.alloc(), source)?;
+        assert_eq!(rt; targets, "/a/b/\n/\n/c/\n".repeat(rt.alloc(), 1_000)?);
+        assert_eq!(rt; head, Head::End);
+        Ok(())
+    }
+
+    fn check_not_yet(
+        rt: &impl Abort,
+        alloc: Global,
+        text: &str,
+        targets: &str,
+    ) -> Result<(), Fail> {
+        let (found, head) = heads_of(alloc, source_of(alloc, text, &[])?)?;
+        assert_eq!(rt; found.as_str(), targets, "{text:?}");
+        assert_eq!(rt; head, Head::NotYet, "{text:?}");
+        let (found, head) = heads_of(alloc, source_of(alloc, text, &[])?.with_most(1))?;
+        assert_eq!(rt; found.as_str(), targets, "{text:?}, byte by byte");
+        assert_eq!(rt; head, Head::NotYet, "{text:?}, byte by byte");
+        Ok(())
+    }
+
+    #[test]
+    fn what_is_no_request_is_not_yet_served(rt: HostRuntime) -> Result<(), Fail> {
+        let long = "a".repeat(rt.alloc(), 40_000)?;
+        check_not_yet(&rt, rt.alloc(), long.as_str(), "")?;
+        let table = [
+            ("x", ""),
+            ("\r\n\r\n", ""),
+            ("GET / HTTP/1.1\r\n\r\n", ""),
+            ("POST / HTTP/1.1\r\n", ""),
+            ("POST / HTTP/1.1\r\n\r\nPOST / HTTP/1.1\n\r\n", "/\n"),
+            ("POST / HTTP/1.1\r\n\r\n\r\n", "/\n"),
+        ];
+        for (text, targets) in table {
+            check_not_yet(&rt, rt.alloc(), text, targets)?;
+        }
+        Ok(())
+    }
+
+    #[test]
+    fn a_long_head_is_found(rt: HostRuntime) -> Result<(), Fail> {
+        for (length, last) in [(16_384usize, Head::End), (16_385, Head::NotYet)] {
+            let part = "a".repeat(rt.alloc(), length.saturating_sub(20))?;
+            let input = format!(in rt.alloc(); "POST /{part}/ HTTP/1.1\r\n\r\n")?;
+            let source = source_of(rt.alloc(), input.as_str(), &[])?.with_most(1_000);
+            let (_, head) = heads_of(rt.alloc(), source)?;
+            assert_eq!(rt; head, last, "{length} bytes");
+        }
+        Ok(())
+    }
+
+    #[test]
+    fn a_failed_read_loses_nothing(rt: HostRuntime) -> Result<(), Fail> {
+        let mut source = source_of(rt.alloc(), INPUT, &[1])?.with_most(10);
+        let mut inbox = Inbox::new(rt.alloc())?;
+        assert_eq!(rt; next_head(&mut source, &mut inbox), Err(Failed));
+        assert_eq!(rt; next_head(&mut source, &mut inbox), Ok(Head::Request));
+        assert_eq!(rt; inbox.target(), b"/a/b/".as_slice());
+        Ok(())
+    }
+}

@@ -1,0 +1,139 @@
+ghost use Rattle.std.specs.Prelude.{◌≡◌, ◌≤◌, ◌<◌, false, List, length, IfOk, IfSome, IfErr, IsErrOf};
+ghost use Rattle.weed_base.specs.Told.{IsCauseOf};
+ghost use Rattle.weed_base.specs.Files.{BothTold};
+ghost use Rattle.name_core.specs.declared.change.Record.{Record};
+ghost use Rattle.name_core.specs.RecordText.{record_text, CanBeWritten};
+
+use crate::name_list::NameList;
+use crate::replay::replay;
+use meta_log::{GateText, LogFault, MetaLog};
+use name_core::{Command, PlanFault, Record, Refusal, plan};
+use std::alloc::{AllocError, AllocFailed, Global};
+use thiserror::Error;
+use weed_base::{Disk, Failed, Path};
+
+/// Why a directory was not made.
+#[derive(Debug, Drop, Error)]
+pub enum MakeFault {
+    #[error("refused: {0}")]
+    Refused(Refusal),
+    #[error("a call of the disk failed")]
+    DiskFault,
+    #[error("out of memory")]
+    Memory,
+}
+
+impl From<AllocError> for MakeFault {
+    ghost use Rattle.weed.specs.declared.plain_filer.MakeFault.TheVariants.{Memory};
+
+    ghost from_gives = { λ _ fault. fault ≡ Memory };
+
+    fn from(_: AllocError) -> Self {
+        MakeFault::Memory
+    }
+}
+
+impl From<Failed> for MakeFault {
+    ghost use Rattle.weed.specs.declared.plain_filer.MakeFault.TheVariants.{DiskFault};
+
+    ghost from_gives = { λ _ fault. fault ≡ DiskFault };
+
+    fn from(_: Failed) -> Self {
+        MakeFault::DiskFault
+    }
+}
+
+/// The log of a disk, and the namespace that it stands for as a plain list.
+#[derive(Debug, Drop)]
+pub struct PlainFiler {
+    log: MetaLog,
+    names: NameList,
+}
+
+impl PlainFiler {
+    ghost use Rattle.name_core.specs.declared.command.Command.TheVariants.{MakeDir};
+    ghost use Rattle.name_core.specs.Log.{fold, last_time};
+    ghost use Rattle.name_core.specs.Plan.{plan_of, Recorded};
+    ghost use Rattle.meta_log.specs.Faults.{IfDamaged};
+    ghost use Rattle.meta_log.specs.Making.{LeavesOthers};
+    ghost use Rattle.meta_log.specs.declared.stem.Stem.TheVariants.{Log};
+    ghost use Rattle.meta_log.specs.Kept.{front_of, HoldsRecordLog, IsRecordDamage};
+    ghost use Rattle.meta_log.specs.Records.{ReadsAs};
+    ghost use Rattle.weed.specs.Filer.{IsFiled, IsFiledFrom, HoldsFiler, Makes, log_of};
+
+    /// Opens the log of a disk, and folds its records into names. Makes the log's first segment where none
+    /// counts. Where the files are no log of records, `Damaged` names the first file and place to blame.
+    pub fn open<D: Disk>(alloc: Global, disk: &mut D) -> Result<PlainFiler, LogFault>
+        requires { D.MARKS_ONLY ≡ false }
+        ensures opened { IfOk result (λ filer. IfSome (D.files disk.old) (λ files. IsFiledFrom files (D.files disk.new) filer)) }
+        ensures held { IfOk result (λ filer. (records : List Record) × HoldsFiler (D.files disk.new) filer records) }
+        ensures damaged { IfErr result (IfDamaged (λ file at.
+            IfSome (D.files disk.old) (λ files. IsRecordDamage files file at) × (D.files disk.new ≡ D.files disk.old))) }
+
+        // Whatever comes of it, the records that the disk holds stay.
+        ensures kept { (records : List Record) → HoldsRecordLog (D.files disk.old) records → HoldsRecordLog (D.files disk.new) records }
+        ensures others { BothTold (LeavesOthers Log) (D.files disk.old) (D.files disk.new) }
+        ensures cause { IsCauseOf (D.faults disk.old) (D.faults disk.new) (IsErrOf result LogFault.DiskFault) }
+        ensures sent { (D.sent disk.new ≡ D.sent disk.old) × (D.send_faults disk.new ≡ D.send_faults disk.old) }
+    {
+        let log = MetaLog::open(alloc, disk)?;
+        let names = replay(alloc, disk, &log)?;
+        Ok(PlainFiler { log, names })
+    }
+
+    /// Makes the directory and each missing one above it, at a moment in nanoseconds since 1970. After
+    /// `DiskFault` the log is to be opened again; after the other faults nothing is changed.
+    pub fn make_dir<D: Disk>(
+        &mut self,
+        alloc: Global,
+        disk: &mut D,
+        path: Path,
+        moment: u64,
+    ) -> Result<(), MakeFault>
+        requires { (records : List Record) × HoldsFiler (D.files disk.old) self.old records }
+        ensures made { IfSome (D.files disk.old) (λ files. (records : List Record) → IsFiled files self.old records
+            → Makes (plan_of (fold records) (MakeDir path) moment (last_time records)) records (D.files disk.new) self.new result) }
+        ensures cause { IsCauseOf (D.faults disk.old) (D.faults disk.new) (IsErrOf result MakeFault.DiskFault) }
+        ensures held { ¬ (IsErrOf result MakeFault.DiskFault) → (records : List Record) × HoldsFiler (D.files disk.new) self.new records }
+        ensures sent { (D.sent disk.new ≡ D.sent disk.old) × (D.send_faults disk.new ≡ D.send_faults disk.old) }
+    {
+        let command = Command::MakeDir { path };
+        let last = self.log.front().time;
+        match plan(alloc, &mut self.names, &command, moment, last) {
+            Ok(Some(planned)) => self.append(alloc, disk, planned),
+            Ok(None) => Ok(()),
+            Err(PlanFault::Refused(refusal)) => Err(MakeFault::Refused(refusal)),
+            Err(PlanFault::Memory) => Err(MakeFault::Memory),
+            Err(PlanFault::KeeperFault) => unreachable!(),
+        }
+    }
+
+    /// Appends a planned record, once all the memory that it wants is there, and takes its changes.
+    fn append<D: Disk>(
+        &mut self,
+        alloc: Global,
+        disk: &mut D,
+        planned: Record,
+    ) -> Result<(), MakeFault>
+        requires held { (records : List Record) × HoldsFiler (D.files disk.old) self.old records }
+        requires writable { CanBeWritten planned }
+        requires read_back { ReadsAs (record_text planned) planned }
+        requires short { length (record_text planned) ≤ 67108864 }
+        requires later { (front_of (log_of self.old)).time < planned.time }
+        ensures made { IfSome (D.files disk.old) (λ files. (records : List Record) → IsFiled files self.old records
+            → Makes (Recorded planned) records (D.files disk.new) self.new result) }
+        ensures cause { IsCauseOf (D.faults disk.old) (D.faults disk.new) (IsErrOf result MakeFault.DiskFault) }
+        ensures held { ¬ (IsErrOf result MakeFault.DiskFault) → (records : List Record) × HoldsFiler (D.files disk.new) self.new records }
+        ensures sent { (D.sent disk.new ≡ D.sent disk.old) × (D.send_faults disk.new ≡ D.send_faults disk.old) }
+    {
+        let text = planned.write(alloc)?;
+        let ready = GateText::make(alloc, text.as_slice())?;
+        self.names.reserve(planned.changes.as_slice().len())?;
+        self.log.append(disk, planned.time, &ready)?;
+        self.names.commit(planned.changes);
+        Ok(())
+    }
+}
+
+#[cfg(test)]
+mod tests;

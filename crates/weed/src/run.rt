@@ -1,0 +1,141 @@
+ghost use Rattle.std.specs.Prelude.{◌≡◌, ◌↔◌, ◌≤◌, List, ℕ, Ok, Err, IfOk, IfErr, IfSome, IsErrOf};
+ghost use Rattle.weed_base.specs.Told.{Rose, IsCauseOf};
+ghost use Rattle.weed_base.specs.Files.{BothTold};
+ghost use Rattle.name_core.specs.declared.change.Record.{Record};
+ghost use Rattle.meta_log.specs.Kept.{HoldsRecordLog, IsRecordDamage};
+ghost use Rattle.meta_log.specs.Making.{LeavesOthers};
+ghost use Rattle.meta_log.specs.declared.stem.Stem.TheVariants.{Log};
+ghost use Rattle.weed.specs.Words.{order_of};
+ghost use Rattle.weed.specs.Filer.{HoldsFiler};
+ghost use Rattle.weed.specs.Session.{State, Stands};
+ghost use Rattle.weed.specs.Run.{Starts, Begins, EndsRun, IsEarly, IfDamagedExit, exit_of_fault};
+
+use crate::exit::Exit;
+use crate::inbox::Inbox;
+use crate::plain_filer::PlainFiler;
+use crate::session::{Session, run};
+use crate::standing::make_standing;
+use crate::words::{Order, read_words};
+use crate::world::World;
+use meta_log::LogFault;
+use std::alloc::{AllocError, Global};
+use weed_base::{Clock, Failed, Host, Source, Word};
+
+impl From<AllocError> for Exit {
+    ghost use Rattle.weed.specs.declared.exit.Exit.TheVariants.{Memory};
+
+    ghost from_gives = { λ _ exit. exit ≡ Memory };
+
+    fn from(_: AllocError) -> Self {
+        Exit::Memory
+    }
+}
+
+impl From<Failed> for Exit {
+    ghost use Rattle.weed.specs.declared.exit.Exit.TheVariants.{DiskFault};
+
+    ghost from_gives = { λ _ exit. exit ≡ DiskFault };
+
+    fn from(_: Failed) -> Self {
+        Exit::DiskFault
+    }
+}
+
+impl From<LogFault> for Exit {
+    ghost from_gives = { λ fault exit. exit ≡ exit_of_fault fault };
+
+    fn from(fault: LogFault) -> Self {
+        match fault {
+            LogFault::DiskFault => Exit::DiskFault,
+            LogFault::Damaged { file, at } => Exit::Damaged { file, at },
+            LogFault::Memory => Exit::Memory,
+        }
+    }
+}
+
+/// Does what the words ask for, over the world that it is handed, and hands the world back.
+///
+/// `filer.once` answers the requests of the source over the log in the host's directory, in order and each
+/// over what the ones before it left: an answer goes out once its record is settled on the disk.
+pub fn weed<S: Source, H: Host, C: Clock>(
+    alloc: Global,
+    words: &[Word],
+    world: World<S, H, C>,
+) -> (Exit, World<S, H, C>)
+    ensures answers { (dir : List ℕ) (first : State) → order_of words.now ≡ Ok dir
+        → Starts (S.left world.source) (H.sent world.host) (H.files world.host) (C.moments world.clock) first
+        → (last : State) × Stands (H.sent result.1.host) (H.files result.1.host) (C.moments result.1.clock) last × EndsRun result.0 first last }
+    ensures words { (place : ℕ) → (result.0 ≡ Exit.BadWords place) ↔ (order_of words.now ≡ Err place) }
+    ensures untouched { (place : ℕ) → order_of words.now ≡ Err place → result.1 ≡ world }
+    ensures damaged { IfDamagedExit (λ file at. IfSome (H.files world.host) (λ files. IsRecordDamage files file at) × (H.files result.1.host ≡ H.files world.host)) result.0 }
+    ensures disk { result.0 ≡ Exit.DiskFault → Rose (H.faults world.host) (H.faults result.1.host) }
+    ensures read { result.0 ≡ Exit.ReadFault → Rose (S.faults world.source) (S.faults result.1.source) }
+    ensures write { result.0 ≡ Exit.WriteFault → Rose (H.send_faults world.host) (H.send_faults result.1.host) }
+{
+    let mut world = world;
+    match read_words(words) {
+        Ok(Order::FilerOnce { dir }) => {
+            let exit = filer_once(alloc, dir, &mut world);
+            (exit, world)
+        }
+        Err(bad) => (Exit::BadWords { place: bad.place }, world),
+    }
+}
+
+/// Answers the requests of the source over the log in a directory.
+fn filer_once<S: Source, H: Host, C: Clock>(
+    alloc: Global,
+    dir: &[u8],
+    world: &mut World<S, H, C>,
+) -> Exit
+    ensures answers { (first : State) → Starts (S.left world.old.source) (H.sent world.old.host) (H.files world.old.host) (C.moments world.old.clock) first
+        → (last : State) × Stands (H.sent world.new.host) (H.files world.new.host) (C.moments world.new.clock) last × EndsRun result first last }
+    ensures good_words { (place : ℕ) → result ≡ Exit.BadWords place → ⊥ }
+    ensures damaged { IfDamagedExit (λ file at. IfSome (H.files world.old.host) (λ files. IsRecordDamage files file at) × (H.files world.new.host ≡ H.files world.old.host)) result }
+    ensures disk { result ≡ Exit.DiskFault → Rose (H.faults world.old.host) (H.faults world.new.host) }
+    ensures read { result ≡ Exit.ReadFault → Rose (S.faults world.old.source) (S.faults world.new.source) }
+    ensures write { result ≡ Exit.WriteFault → Rose (H.send_faults world.old.host) (H.send_faults world.new.host) }
+{
+    match begin(alloc, dir, &mut world.host) {
+        Ok(mut session) => run(alloc, &mut session, world),
+        Err(exit) => exit,
+    }
+}
+
+/// Turns the host to a directory and opens the log there.
+fn begin<H: Host>(alloc: Global, dir: &[u8], host: &mut H) -> Result<Session, Exit>
+    ensures began { IfOk result (λ session. Begins (H.files host.old) (H.files host.new) session) }
+    ensures held { IfOk result (λ session. (records : List Record) × HoldsFiler (H.files host.new) session.filer records) }
+    ensures early { IfErr result IsEarly }
+    ensures damaged { IfErr result (IfDamagedExit (λ file at. IfSome (H.files host.old) (λ files. IsRecordDamage files file at) × (H.files host.new ≡ H.files host.old))) }
+    ensures kept { (records : List Record) → HoldsRecordLog (H.files host.old) records → HoldsRecordLog (H.files host.new) records }
+    ensures others { BothTold (LeavesOthers Log) (H.files host.old) (H.files host.new) }
+    ensures cause { IsCauseOf (H.faults host.old) (H.faults host.new) (IsErrOf result Exit.DiskFault) }
+    ensures sent { (H.sent host.new ≡ H.sent host.old) × (H.send_faults host.new ≡ H.send_faults host.old) }
+{
+    let inbox = Inbox::new(alloc)?;
+    let standing = make_standing(alloc)?;
+    attach(alloc, dir, host)?;
+    let filer = PlainFiler::open(alloc, host)?;
+    Ok(Session {
+        filer,
+        inbox,
+        standing,
+    })
+}
+
+/// Turns the host to a directory.
+fn attach<H: Host>(alloc: Global, dir: &[u8], host: &mut H) -> Result<(), Exit>
+    ensures early { IfErr result IsEarly }
+    ensures sound { IfErr result (IfDamagedExit (λ _ _. ⊥)) }
+    ensures files { H.files host.new ≡ H.files host.old }
+    ensures cause { IsCauseOf (H.faults host.old) (H.faults host.new) (IsErrOf result Exit.DiskFault) }
+    ensures sent { (H.sent host.new ≡ H.sent host.old) × (H.send_faults host.new ≡ H.send_faults host.old) }
+{
+    let place = Word::new(alloc, dir)?;
+    host.attach(&place)?;
+    Ok(())
+}
+
+#[cfg(test)]
+mod tests;

@@ -1,0 +1,197 @@
+use super::*;
+use std::test::Fail;
+use weed_base::{Bytes, FileName, MemClock, MemDisk, MemHost, MemSource, NamedBytes};
+
+const MAKE: &[u8] = b"POST /a/b/ HTTP/1.1\r\nHost: x\r\n\r\n";
+
+const MADE: &str =
+    "HTTP/1.1 201 Created\r\nContent-Type: application/json\r\nContent-Length: 12\r\n\r\n{\"name\":\"b\"}";
+
+const DISK_FAULT: &str =
+    "HTTP/1.1 500 Internal Server Error\r\nContent-Type: application/json\r\nContent-Length: 21\r\nConnection: close\r\n\r\n{\"error\":\"DiskFault\"}";
+
+/// What a run over memory left.
+#[derive(Drop)]
+struct Ran {
+    status: u8,
+    host: MemHost,
+}
+
+impl Ran {
+    fn sent(&self) -> &[u8] {
+        self.host.sent()
+    }
+
+    /// The bytes of the log, none where there is none.
+    fn log(&self) -> Result<&[u8], Fail> {
+        let name = FileName::new(b"log.00000001").ok_or("a name")?;
+        Ok(self.host.disk().content(&name).unwrap_or_default())
+    }
+}
+
+fn source_of(alloc: Global, input: &[u8]) -> Result<MemSource, Fail> {
+    let input = Bytes::new(alloc, input)?.into_vec();
+    Ok(MemSource::new(input, Vec::new(alloc)))
+}
+
+fn empty_disk(alloc: Global) -> Result<MemDisk, Fail> {
+    Ok(MemDisk::new(alloc, Vec::new(alloc), Vec::new(alloc))?)
+}
+
+/// Runs `filer.once` over a clock of three moments.
+fn run_over(
+    alloc: Global,
+    source: MemSource,
+    disk: MemDisk,
+    moments: [u64; 3],
+) -> Result<Ran, Fail> {
+    let mut words = Vec::new(alloc);
+    words.push(Word::new(alloc, b"filer.once")?)?;
+    words.push(Word::new(alloc, b"-dir=data")?)?;
+    let mut ticks = Vec::new(alloc);
+    for moment in moments {
+        ticks.push(moment)?;
+    }
+    let world = World {
+        source,
+        host: MemHost::new(alloc, disk, Vec::new(alloc)),
+        clock: MemClock::new(ticks),
+    };
+    let (exit, world) = weed(alloc, words.as_slice(), world);
+    Ok(Ran {
+        status: exit.status(),
+        host: world.host,
+    })
+}
+
+/// Runs it over an empty disk at five seconds after 1970.
+fn run_once(alloc: Global, input: &[u8]) -> Result<Ran, Fail> {
+    let source = source_of(alloc, input)?;
+    run_over(alloc, source, empty_disk(alloc)?, [5_000_000_000; 3])
+}
+
+#[test]
+fn a_directory_is_made_and_answered(rt: HostRuntime) -> Result<(), Fail> {
+    let ran = run_once(rt.alloc(), MAKE)?;
+    assert_eq!(rt; ran.sent(), MADE.as_bytes());
+    assert_eq!(rt; ran.status, 0);
+    assert_eq!(rt; ran.log()?.len(), 59);
+    Ok(())
+}
+
+#[test]
+fn an_empty_input_makes_an_empty_log(rt: HostRuntime) -> Result<(), Fail> {
+    let ran = run_once(rt.alloc(), b"")?;
+    assert_eq!(rt; ran.sent(), b"".as_slice());
+    assert_eq!(rt; ran.status, 0);
+    assert_eq!(rt; ran.log()?, b"\0".as_slice());
+    Ok(())
+}
+
+#[test]
+fn a_bad_path_and_a_request_of_another_kind_are_refused_and_close(
+    rt: HostRuntime,
+) -> Result<(), Fail> {
+    let table: [(&[u8], &str); 3] = [
+        (
+            b"POST /a/../b/ HTTP/1.1\r\n\r\nPOST /a/ HTTP/1.1\r\n\r\n",
+            "HTTP/1.1 400 Bad Request\r\nContent-Type: application/json\r\nContent-Length: 19\r\nConnection: close\r\n\r\n{\"error\":\"DotPart\"}",
+        ),
+        (
+            b"GET / HTTP/1.1\r\n\r\nPOST /a/ HTTP/1.1\r\n\r\n",
+            "HTTP/1.1 501 Not Implemented\r\nContent-Type: application/json\r\nContent-Length: 18\r\nConnection: close\r\n\r\n{\"error\":\"NotYet\"}",
+        ),
+        (
+            b"POST /a/",
+            "HTTP/1.1 501 Not Implemented\r\nContent-Type: application/json\r\nContent-Length: 18\r\nConnection: close\r\n\r\n{\"error\":\"NotYet\"}",
+        ),
+    ];
+    for (input, answer) in table {
+        let ran = run_once(rt.alloc(), input)?;
+        assert_eq!(rt; ran.sent(), answer.as_bytes());
+        assert_eq!(rt; ran.status, 0);
+        assert_eq!(rt; ran.log()?, b"\0".as_slice());
+    }
+    Ok(())
+}
+
+const THREE: &[u8] = b"POST /a/ HTTP/1.1\r\n\r\nPOST /b/ HTTP/1.1\r\n\r\nPOST /c/ HTTP/1.1\r\n\r\n";
+
+#[test]
+fn input_in_pieces_is_answered_as_the_whole(rt: HostRuntime) -> Result<(), Fail> {
+    let alloc = rt.alloc();
+    let whole = run_once(alloc, THREE)?;
+    for most in [1, 2, 17, 18, 19, 20, 21, 22] {
+        let source = source_of(alloc, THREE)?.with_most(most);
+        let ran = run_over(alloc, source, empty_disk(alloc)?, [5_000_000_000; 3])?;
+        assert_eq!(rt; ran.sent(), whole.sent(), "{most} bytes a read");
+        assert_eq!(rt; ran.log()?, whole.log()?, "{most} bytes a read");
+    }
+    Ok(())
+}
+
+#[test]
+fn times_rise_past_a_clock_that_stands_or_falls(rt: HostRuntime) -> Result<(), Fail> {
+    let alloc = rt.alloc();
+    let falling = run_over(
+        alloc,
+        source_of(alloc, THREE)?,
+        empty_disk(alloc)?,
+        [50, 50, 20],
+    )?;
+    let rising = run_over(
+        alloc,
+        source_of(alloc, THREE)?,
+        empty_disk(alloc)?,
+        [50, 51, 52],
+    )?;
+    assert_eq!(rt; falling.log()?, rising.log()?);
+    Ok(())
+}
+
+/// The files of a run's disk, on a disk that doesn't fail.
+fn disk_after(alloc: Global, ran: &Ran) -> Result<MemDisk, Fail> {
+    let mut files = Vec::new(alloc);
+    for text in [b"log.00000001".as_slice(), b"log.00000001.on"] {
+        let name = FileName::new(text).ok_or("a name")?;
+        if let Some(bytes) = ran.host.disk().content(&name) {
+            let bytes = Bytes::new(alloc, bytes)?;
+            files.push(NamedBytes { name, bytes })?;
+        }
+    }
+    Ok(MemDisk::new(alloc, files, Vec::new(alloc))?)
+}
+
+/// Runs the first request over a disk of which that call fails.
+fn run_with_a_fault(alloc: Global, call: u64) -> Result<Ran, Fail> {
+    let disk = MemDisk::new(alloc, Vec::new(alloc), vec![in alloc; call]?)?;
+    run_over(alloc, source_of(alloc, MAKE)?, disk, [5_000_000_000; 3])
+}
+
+#[test]
+fn each_call_of_the_disk_may_fail(rt: HostRuntime) -> Result<(), Fail> {
+    let alloc = rt.alloc();
+    let mut told = 0;
+    for call in 1..=30 {
+        let ran = run_with_a_fault(alloc, call)?;
+        if ran.host.disk().faults() == 0 {
+            assert_eq!(rt; ran.sent(), MADE.as_bytes(), "call {call}");
+            assert_eq!(rt; ran.status, 0, "call {call}");
+        } else {
+            assert_eq!(rt; ran.status, 2, "call {call}");
+            let is_told = ran.sent() == DISK_FAULT.as_bytes();
+            assert!(rt; is_told || ran.sent().is_empty(), "call {call}");
+            told += u32::from(is_told);
+        }
+        let again = run_over(
+            alloc,
+            source_of(alloc, MAKE)?,
+            disk_after(alloc, &ran)?,
+            [5_000_000_000; 3],
+        )?;
+        assert_eq!(rt; again.status, 0, "after call {call}");
+        assert_eq!(rt; again.sent(), MADE.as_bytes(), "after call {call}");
+    }
+    assert!(rt; told >= 4, "{told} faults of an append");
+    Ok(())
+}

@@ -1,0 +1,141 @@
+ghost use Rattle.std.specs.Prelude.{◌≡◌, ◌≤◌, List, ℕ};
+ghost use Rattle.weed_base.specs.Told.{Rose};
+ghost use Rattle.name_core.specs.declared.change.Record.{Record};
+ghost use Rattle.weed.specs.Filer.{HoldsFiler};
+ghost use Rattle.weed.specs.Session.{State, Stands};
+ghost use Rattle.weed.specs.Tells.{Sends, Tells, Asking, Leads, Ends, IsTurnEnd, IsSessionEnd};
+
+use crate::exit::Exit;
+use crate::inbox::{Head, Inbox, next_head};
+use crate::plain_filer::PlainFiler;
+use crate::reply::{ReplyFault, reply_to_target};
+use crate::standing::Standing;
+use crate::world::World;
+use crate::write::{WriteFault, send_all};
+use std::alloc::Global;
+use weed_base::{Clock, Failed, Host, Source};
+
+/// How many requests a session answers at most.
+const MOST_TURNS: u64 = 1 << 40;
+
+/// What a turn led to.
+#[derive(Debug, Drop)]
+pub enum Turned {
+    /// The session goes on.
+    Open,
+    /// It has ended.
+    Ended(Exit),
+}
+
+/// Sends an answer, after which the session goes on unless it closes.
+fn send_answer<H: Host>(host: &mut H, answer: &[u8], closes: bool) -> Turned
+    ensures sends { Sends answer.now closes (H.sent host.old) (H.sent host.new) result }
+    ensures later { H.send_faults host.old ≤ H.send_faults host.new }
+    ensures cause { result ≡ Turned.Ended Exit.WriteFault → Rose (H.send_faults host.old) (H.send_faults host.new) }
+    ensures files { H.files host.new ≡ H.files host.old }
+    ensures faults { H.faults host.new ≡ H.faults host.old }
+    ensures kind { IsTurnEnd result }
+{
+    match send_all(host, answer) {
+        Ok(()) if closes => Turned::Ended(Exit::Done),
+        Ok(()) => Turned::Open,
+        Err(WriteFault) => Turned::Ended(Exit::WriteFault),
+    }
+}
+
+/// What a session keeps beside its world.
+#[derive(Debug, Drop)]
+pub struct Session {
+    pub filer: PlainFiler,
+    pub inbox: Inbox,
+    pub standing: Standing,
+}
+
+/// Answers the requests of the input, each over the log that the ones before it left.
+pub fn run<S: Source, H: Host, C: Clock>(
+    alloc: Global,
+    session: &mut Session,
+    world: &mut World<S, H, C>,
+) -> Exit
+    requires { (records : List Record) × HoldsFiler (H.files world.old.host) session.old.filer records }
+    ensures ends { (first : State) → Tells (S.left world.old.source) (H.sent world.old.host) (H.files world.old.host) (C.moments world.old.clock) session.old first
+        → (last : State) × Stands (H.sent world.new.host) (H.files world.new.host) (C.moments world.new.clock) last × Ends result first last }
+    ensures disk { result ≡ Exit.DiskFault → Rose (H.faults world.old.host) (H.faults world.new.host) }
+    ensures read { result ≡ Exit.ReadFault → Rose (S.faults world.old.source) (S.faults world.new.source) }
+    ensures write { result ≡ Exit.WriteFault → Rose (H.send_faults world.old.host) (H.send_faults world.new.host) }
+    ensures disk_later { H.faults world.old.host ≤ H.faults world.new.host }
+    ensures kind { IsSessionEnd result }
+{
+    for _turn in 0..MOST_TURNS {
+        match turn(alloc, session, world) {
+            Turned::Open => {}
+            Turned::Ended(exit) => return exit,
+        }
+    }
+    Exit::TurnsSpent
+}
+
+/// Answers what stands in front of the input.
+fn turn<S: Source, H: Host, C: Clock>(
+    alloc: Global,
+    session: &mut Session,
+    world: &mut World<S, H, C>,
+) -> Turned
+    requires { (records : List Record) × HoldsFiler (H.files world.old.host) session.old.filer records }
+    ensures leads { (old : State) → Tells (S.left world.old.source) (H.sent world.old.host) (H.files world.old.host) (C.moments world.old.clock) session.old old
+        → Leads old (S.left world.new.source) (H.sent world.new.host) (H.files world.new.host) (C.moments world.new.clock) session.new result }
+    ensures held { result ≡ Turned.Open → (records : List Record) × HoldsFiler (H.files world.new.host) session.new.filer records }
+    ensures disk { result ≡ Turned.Ended Exit.DiskFault → Rose (H.faults world.old.host) (H.faults world.new.host) }
+    ensures read { result ≡ Turned.Ended Exit.ReadFault → Rose (S.faults world.old.source) (S.faults world.new.source) }
+    ensures write { result ≡ Turned.Ended Exit.WriteFault → Rose (H.send_faults world.old.host) (H.send_faults world.new.host) }
+    ensures disk_later { H.faults world.old.host ≤ H.faults world.new.host }
+    ensures read_later { S.faults world.old.source ≤ S.faults world.new.source }
+    ensures write_later { H.send_faults world.old.host ≤ H.send_faults world.new.host }
+    ensures kind { IsTurnEnd result }
+{
+    match next_head(&mut world.source, &mut session.inbox) {
+        Ok(Head::Request) => answer_request(alloc, session, world),
+        Ok(Head::NotYet) => send_answer(&mut world.host, session.standing.not_yet.as_slice(), true),
+        Ok(Head::End) => Turned::Ended(Exit::Done),
+        Err(Failed) => Turned::Ended(Exit::ReadFault),
+    }
+}
+
+/// Answers the request whose target the inbox has.
+fn answer_request<S: Source, H: Host, C: Clock>(
+    alloc: Global,
+    session: &mut Session,
+    world: &mut World<S, H, C>,
+) -> Turned
+    requires { (records : List Record) × HoldsFiler (H.files world.old.host) session.old.filer records }
+    ensures leads { (old : State) (rest : List ℕ) → Asking old rest (S.left world.old.source) (H.sent world.old.host) (H.files world.old.host) (C.moments world.old.clock) session.old
+        → Leads old (S.left world.new.source) (H.sent world.new.host) (H.files world.new.host) (C.moments world.new.clock) session.new result }
+    ensures held { result ≡ Turned.Open → (records : List Record) × HoldsFiler (H.files world.new.host) session.new.filer records }
+    ensures disk { result ≡ Turned.Ended Exit.DiskFault → Rose (H.faults world.old.host) (H.faults world.new.host) }
+    ensures read { result ≡ Turned.Ended Exit.ReadFault → ⊥ }
+    ensures write { result ≡ Turned.Ended Exit.WriteFault → Rose (H.send_faults world.old.host) (H.send_faults world.new.host) }
+    ensures source { world.new.source ≡ world.old.source }
+    ensures disk_later { H.faults world.old.host ≤ H.faults world.new.host }
+    ensures write_later { H.send_faults world.old.host ≤ H.send_faults world.new.host }
+    ensures kind { IsTurnEnd result }
+{
+    let target = session.inbox.target();
+    match reply_to_target(
+        alloc,
+        &mut session.filer,
+        &mut world.host,
+        &mut world.clock,
+        target,
+    ) {
+        Ok(reply) => send_answer(&mut world.host, reply.answer.as_slice(), reply.closes),
+        Err(ReplyFault::Memory) => send_answer(
+            &mut world.host,
+            session.standing.memory.as_slice(),
+            false,
+        ),
+        Err(ReplyFault::DiskFault) => {
+            let _ = send_all(&mut world.host, session.standing.disk_fault.as_slice());
+            Turned::Ended(Exit::DiskFault)
+        }
+    }
+}

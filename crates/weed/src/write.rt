@@ -1,0 +1,84 @@
+ghost use Rattle.std.specs.Prelude.{◌≡◌};
+ghost use Rattle.std.specs.List.{flat_map};
+ghost use Rattle.weed_base.specs.Told.{HasCause};
+ghost use Rattle.weed.specs.Written.{WritesAll};
+
+use thiserror::Error;
+use weed_base::{Host, Sink};
+
+/// A write failed.
+#[derive(Clone, Copy, Debug, PartialEq, Eq, Error)]
+#[error("a write failed")]
+pub struct WriteFault;
+
+/// Writes all the bytes, or first ones of them where a write fails.
+pub fn write_all<K: Sink>(to: &mut K, bytes: &[u8]) -> Result<(), WriteFault>
+    ensures bytes { WritesAll (K.written to.old) (K.written to.new) result bytes.now }
+    ensures cause { HasCause (K.faults to.old) (K.faults to.new) result }
+{
+    let mut done = 0;
+    while done < bytes.len() {
+        match to.write(&bytes[done..]) {
+            Ok(0) | Err(_) => return Err(WriteFault),
+            Ok(count) => done += count,
+        }
+    }
+    Ok(())
+}
+
+/// Writes the pieces one after another, or first bytes of them where a write fails.
+pub fn write_pieces<K: Sink>(to: &mut K, pieces: &[&[u8]]) -> Result<(), WriteFault>
+    ensures bytes { WritesAll (K.written to.old) (K.written to.new) result (flat_map (λ piece. piece.now) pieces.now) }
+    ensures cause { HasCause (K.faults to.old) (K.faults to.new) result }
+{
+    for piece in pieces {
+        write_all(to, piece)?;
+    }
+    Ok(())
+}
+
+/// Sends all the bytes, or first ones of them where a send fails.
+pub fn send_all<H: Host>(host: &mut H, bytes: &[u8]) -> Result<(), WriteFault>
+    ensures bytes { WritesAll (H.sent host.old) (H.sent host.new) result bytes.now }
+    ensures cause { HasCause (H.send_faults host.old) (H.send_faults host.new) result }
+    ensures files { H.files host.new ≡ H.files host.old }
+    ensures faults { H.faults host.new ≡ H.faults host.old }
+{
+    let mut done = 0;
+    while done < bytes.len() {
+        match host.send(&bytes[done..]) {
+            Ok(0) | Err(_) => return Err(WriteFault),
+            Ok(count) => done += count,
+        }
+    }
+    Ok(())
+}
+
+#[cfg(test)]
+mod tests {
+    use super::*;
+    use std::alloc::{AllocError, Global};
+    use std::test::Fail;
+    use weed_base::{MemDisk, MemHost};
+
+    fn host_of(alloc: Global, failing: &[u64]) -> Result<MemHost, AllocError> {
+        let disk = MemDisk::new(alloc, Vec::new(alloc), Vec::new(alloc))?;
+        Ok(MemHost::new(alloc, disk, failing.to_vec(alloc)?).with_most(2))
+    }
+
+    #[test]
+    fn all_bytes_are_sent(rt: HostRuntime) -> Result<(), Fail> {
+        let mut host = host_of(rt.alloc(), &[])?;
+        assert_eq!(rt; send_all(&mut host, b"abcde"), Ok(()));
+        assert_eq!(rt; host.sent(), b"abcde".as_slice());
+        Ok(())
+    }
+
+    #[test]
+    fn a_failed_send_leaves_first_bytes(rt: HostRuntime) -> Result<(), Fail> {
+        let mut host = host_of(rt.alloc(), &[1])?;
+        assert_eq!(rt; send_all(&mut host, b"abcde"), Err(WriteFault));
+        assert_eq!(rt; host.sent(), b"ab".as_slice());
+        Ok(())
+    }
+}
