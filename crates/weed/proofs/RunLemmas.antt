@@ -4,12 +4,13 @@ use Rattle.std.specs.Prelude.{IfSome, IsSomeAnd}
 use Rattle.std.specs.Option.{option_map}
 use Rattle.weed_base.specs.Files.{Files, BothTold}
 use Rattle.name_core.specs.declared.change.Record.{Record}
-use Rattle.meta_log.specs.Kept.{IsRecordLog, HoldsRecordLog}
+use Rattle.meta_log.specs.Kept.{IsRecordLog, HoldsRecordLog, IsRecordDamage}
+use Rattle.meta_log.proofs.Damage.{no_record_damage}
 use Rattle.weed.specs.Inbox.{left_of}
 use Rattle.weed.specs.Filer.{IsFiledFrom, TellsFiler}
-use Rattle.weed.specs.Session.{State, Rests, Stands}
+use Rattle.weed.specs.Session.{State, Rests, Stands, Turns, most_turns}
 use Rattle.weed.specs.Tells.{Tells, Ends, IsSessionEnd}
-use Rattle.weed.specs.Run.{Starts, Begins, EndsRun, IsEarly, IfDamagedExit}
+use Rattle.weed.specs.Run.{Starts, Begins, EndsRun, IsEarly, IfDamagedExit, IsDoneOrShort}
 use Rattle.weed.specs.declared.exit.Exit.{Exit}
 use Rattle.weed.specs.declared.exit.Exit.TheVariants as exit
 use Rattle.weed.specs.declared.session.Session.{Session}
@@ -57,3 +58,26 @@ session_is_sound P (exit.Damaged file at) ends = absurd ends
 
 pub session_has_words : (end : Exit) (place : ℕ) → IsSessionEnd end → end ≡ exit.BadWords place → ⊥
 session_has_words end place ends is = subst IsSessionEnd is ends
+
+undamaged : (files : Option Files) (log : List Record) (file : List ℕ) (at : ℕ) → IsSomeAnd files (λ told. IsRecordLog told log) → ¬ IfSome files (λ told. IsRecordDamage told file at)
+undamaged None log file at there damage = there
+undamaged (Some files) log file at there damage = no_record_damage files file at log damage there
+
+-- An end has its cause: without one, the run is done or short of memory.
+pub completes : (files : Option Files) (Same : Type 0) (Disk Read Write : Type 0) (end : Exit) (first : State)
+    → IsSomeAnd files (λ told. IsRecordLog told first.log)
+    → (last : State) → EndsRun end first last
+    → ((place : ℕ) → end ≡ exit.BadWords place → ⊥)
+    → IfDamagedExit (λ file at. IfSome files (λ told. IsRecordDamage told file at) × Same) end
+    → (end ≡ exit.DiskFault → Disk) → (end ≡ exit.ReadFault → Read) → (end ≡ exit.WriteFault → Write)
+    → ¬ Disk → ¬ Read → ¬ Write → ((last : State) → ¬ Turns most_turns first last)
+    → IsDoneOrShort end
+completes files Same Disk Read Write exit.Done first there last ends good damaged disk read write no_disk no_read no_write few = tt
+completes files Same Disk Read Write exit.Memory first there last ends good damaged disk read write no_disk no_read no_write few = tt
+completes files Same Disk Read Write exit.DiskFault first there last ends good damaged disk read write no_disk no_read no_write few = no_disk (disk refl)
+completes files Same Disk Read Write exit.ReadFault first there last ends good damaged disk read write no_disk no_read no_write few = no_read (read refl)
+completes files Same Disk Read Write exit.WriteFault first there last ends good damaged disk read write no_disk no_read no_write few = no_write (write refl)
+completes files Same Disk Read Write exit.TurnsSpent first there last (inl turns) good damaged disk read write no_disk no_read no_write few = few last turns
+completes files Same Disk Read Write exit.TurnsSpent first there last (inr early) good damaged disk read write no_disk no_read no_write few = early.0
+completes files Same Disk Read Write (exit.BadWords place) first there last ends good damaged disk read write no_disk no_read no_write few = good place refl
+completes files Same Disk Read Write (exit.Damaged file at) first there last ends good damaged disk read write no_disk no_read no_write few = undamaged files first.log file at there damaged.0

@@ -52,3 +52,14 @@ IfDamagedExit P exit.ReadFault = ⊤
 IfDamagedExit P exit.WriteFault = ⊤
 IfDamagedExit P exit.TurnsSpent = ⊤
 IfDamagedExit P (exit.BadWords place) = ⊤
+
+-- A run is done, or memory was wanting.
+abbrev pub IsDoneOrShort : Exit → Type 0
+IsDoneOrShort exit.Done = ⊤
+IsDoneOrShort exit.Memory = ⊤
+IsDoneOrShort exit.DiskFault = ⊥
+IsDoneOrShort exit.ReadFault = ⊥
+IsDoneOrShort exit.WriteFault = ⊥
+IsDoneOrShort exit.TurnsSpent = ⊥
+IsDoneOrShort (exit.BadWords place) = ⊥
+IsDoneOrShort (exit.Damaged file at) = ⊥

@@ -7,8 +7,8 @@ ghost use Rattle.meta_log.specs.Making.{LeavesOthers};
 ghost use Rattle.meta_log.specs.declared.stem.Stem.TheVariants.{Log};
 ghost use Rattle.weed.specs.Words.{order_of};
 ghost use Rattle.weed.specs.Filer.{HoldsFiler};
-ghost use Rattle.weed.specs.Session.{State, Stands};
-ghost use Rattle.weed.specs.Run.{Starts, Begins, EndsRun, IsEarly, IfDamagedExit, exit_of_fault};
+ghost use Rattle.weed.specs.Session.{State, Stands, Turns, most_turns};
+ghost use Rattle.weed.specs.Run.{Starts, Begins, EndsRun, IsEarly, IfDamagedExit, IsDoneOrShort, exit_of_fault};
 
 use crate::exit::Exit;
 use crate::inbox::Inbox;
@@ -65,6 +65,14 @@ pub fn weed<S: Source, H: Host, C: Clock>(
     ensures answers { (dir : List ℕ) (first : State) → order_of words.now ≡ Ok dir
         → Starts (S.left world.source) (H.sent world.host) (H.files world.host) (C.moments world.clock) first
         → (last : State) × Stands (H.sent result.1.host) (H.files result.1.host) (C.moments result.1.clock) last × EndsRun result.0 first last }
+
+    // Where nothing of the outside failed, the log is one, and fewer than 2^40 requests are answered without
+    // closing, the run is done, or memory was wanting.
+    ensures complete { (dir : List ℕ) (first : State) → order_of words.now ≡ Ok dir
+        → Starts (S.left world.source) (H.sent world.host) (H.files world.host) (C.moments world.clock) first
+        → ¬ Rose (H.faults world.host) (H.faults result.1.host) → ¬ Rose (S.faults world.source) (S.faults result.1.source)
+        → ¬ Rose (H.send_faults world.host) (H.send_faults result.1.host) → ((last : State) → ¬ Turns most_turns first last)
+        → IsDoneOrShort result.0 }
     ensures words { (place : ℕ) → (result.0 ≡ Exit.BadWords place) ↔ (order_of words.now ≡ Err place) }
     ensures untouched { (place : ℕ) → order_of words.now ≡ Err place → result.1 ≡ world }
     ensures damaged { IfDamagedExit (λ file at. IfSome (H.files world.host) (λ files. IsRecordDamage files file at) × (H.files result.1.host ≡ H.files world.host)) result.0 }
