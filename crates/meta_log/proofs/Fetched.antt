@@ -1,5 +1,5 @@
 -- What is read of a log from a place on.
-use Rattle.std.proofs.Common.{◌≡◌, ℕ, zero, suc, ◌+◌, ◌<◌, min, List, [], ◌∷◌, ◌++◌, length, take, drop, refl, sym, ◌∙◌, ap, subst, arith, append_assoc, length-append, Option, Some, None}
+use Rattle.std.proofs.Common.{◌≡◌, ℕ, zero, suc, ◌+◌, ◌<◌, min, List, [], ◌∷◌, ◌++◌, length, take, drop, refl, sym, ◌∙◌, ap, subst, arith, append_assoc, length-append, take-append-drop, Option, Some, None}
 use Rattle.std.specs.Prelude.{IfSome, All}
 use Rattle.std.proofs.lemmas.Bool.Decides.{nat_tests}
 use Rattle.std.proofs.lemmas.List.{drop_at}
@@ -94,3 +94,12 @@ told_undamaged (Some files) now name log name_is place reading same holds begins
 -- all of it is left at the start
 pub left_at_start : (files : Files) (log : GateLog) (payloads : List (List ℕ)) (at : ℕ) → IsHeld files log payloads → at ≡ 0 → IsLeft (content files (segment_name log.stem 1)) log.gate at payloads
 left_at_start files log payloads at held is = left_at files log [] payloads at held is
+
+-- The next place lies behind payloads of the log too.
+pub told_behind : (told now : Option Files) (log : GateLog) (place next : Place) (room : ℕ) (texts : List (List ℕ)) → now ≡ told → HoldsPlace told log place → IsNext told log place room texts next → HoldsPlace now log next
+told_behind None now log place next room texts same holds is_next = subst (λ o. HoldsPlace o log next) (sym same) tt
+told_behind (Some files) now log place next room texts same holds is_next =
+    let found = is_next holds.0 holds.1 holds.2 holds.3 in
+    let whole : holds.0 ++ holds.1 ≡ (holds.0 ++ take room holds.1) ++ drop room holds.1 =
+    ap (λ (l : List (List ℕ)). holds.0 ++ l) (sym (take-append-drop room holds.1)) ∙ sym (append_assoc holds.0 (take room holds.1) (drop room holds.1)) in
+    subst (λ o. HoldsPlace o log next) (sym same) (holds.0 ++ take room holds.1, drop room holds.1, subst (IsHeld files log) whole holds.2, found.1)

@@ -6,7 +6,7 @@ use Rattle.std.proofs.lemmas.List.Elements.{All-push, All-nil}
 use Rattle.weed_base.specs.Files.{Files, BothTold}
 use Rattle.meta_log.specs.LogText.{NoneFrom, HasText, HasSegment, IsAllowed, IsLogText}
 use Rattle.meta_log.specs.Opening.{IsOpen}
-use Rattle.meta_log.specs.Held.{IsHeld, IsOpened}
+use Rattle.meta_log.specs.Held.{Holds, IsHeld, IsOpened}
 use Rattle.meta_log.specs.declared.gate_log.GateLog.{GateLog}
 use Rattle.meta_log.proofs.Unique.{text_unique}
 use Rattle.meta_log.specs.Making.{IsFresh, IsFreshOrEmpty, LeavesOthers}
@@ -83,3 +83,9 @@ opened (Some old) None stem log stem_is found = absurd found
 opened (Some old) (Some new) stem log stem_is found =
     let both = opened_files stem old new log stem_is found in
     record { stem_is = stem_is; text = both.0; holds = both.1 }
+
+-- So the disk holds the log.
+pub opened_holds : (old new : Option Files) (stem : Stem) (log : GateLog) → BothTold (LeavesOthers stem) old new → IsOpened stem old new log → Holds new log
+opened_holds old None stem log told opened = ([], tt)
+opened_holds None (Some new) stem log told opened = absurd told
+opened_holds (Some old) (Some new) stem log told opened = (opened.text.0, opened.holds opened.text.0 opened.text.1)

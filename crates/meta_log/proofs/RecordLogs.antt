@@ -1,5 +1,5 @@
 -- What an opening of a log of records finds and leaves.
-use Rattle.std.proofs.Common.{◌≡◌, inl, inr, ℕ, List, length, sym, ◌∙◌, ap, subst, Option, Some, None}
+use Rattle.std.proofs.Common.{[], ◌≡◌, inl, inr, ℕ, List, length, sym, ◌∙◌, ap, subst, Option, Some, None}
 use Rattle.std.specs.Prelude.{IfSome}
 use Rattle.weed_base.specs.Files.{Files, BothTold}
 use Rattle.name_core.specs.declared.change.Record.{Record}
@@ -9,7 +9,7 @@ use Rattle.meta_log.specs.LogText.{IsAllowed, HasSegment, HasText}
 use Rattle.meta_log.specs.Making.{LeavesOthers}
 use Rattle.meta_log.specs.Opening.{IsOpen}
 use Rattle.meta_log.specs.Records.{ReadAs, AreRecords, HasFront, front_of_records}
-use Rattle.meta_log.specs.Kept.{IsRecordLog, HoldsRecordLog, IsKept, IsOpenedFrom}
+use Rattle.meta_log.specs.Kept.{IsRecordLog, HoldsRecordLog, Keeps, IsKept, IsOpenedFrom}
 use Rattle.meta_log.specs.declared.stem.Stem.{Stem}
 use Rattle.meta_log.specs.declared.stem.Stem.TheVariants.{Log}
 use Rattle.meta_log.specs.declared.meta_log.MetaLog.{MetaLog}
@@ -72,3 +72,9 @@ pub records_kept : (old new : Option Files) → BothTold (LeavesOthers Log) old 
 records_kept old None told kept records log = tt
 records_kept None (Some new) told kept records log = absurd told
 records_kept (Some old) (Some new) told kept records log = to_log new log.payloads records (kept log.payloads (from_log old records log)) log.read log.times
+
+-- So the disk holds the log.
+pub opened_keeps : (old new : Option Files) (meta : MetaLog) → BothTold (LeavesOthers Log) old new → IsOpenedFrom old new meta → Keeps new meta
+opened_keeps old None meta told opened = ([], tt)
+opened_keeps None (Some new) meta told opened = absurd told
+opened_keeps (Some old) (Some new) meta told opened = (opened.text.0, opened.holds opened.text.0 opened.text.1)

@@ -23,6 +23,10 @@ pub record IsHeld (files : Files) (log : GateLog) (payloads : List (List ℕ)) :
 abbrev pub HoldsLog : Option Files → GateLog → List (List ℕ) → Type 0
 HoldsLog told log payloads = IfSome told (λ files. IsHeld files log payloads)
 
+-- The disk holds the log, with some list.
+abbrev pub Holds : Option Files → GateLog → Type 0
+Holds told log = (payloads : List (List ℕ)) × HoldsLog told log payloads
+
 -- The disk, where told, is a log text for this list.
 abbrev pub HoldsText : Stem → Option Files → List (List ℕ) → Type 0
 HoldsText stem told payloads = IfSome told (λ files. IsLogText stem files payloads)

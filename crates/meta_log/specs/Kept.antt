@@ -42,6 +42,10 @@ pub record IsKept (files : Files) (meta : MetaLog) (records : List Record) : Typ
 abbrev pub HoldsRecords : Option Files → MetaLog → List Record → Type 0
 HoldsRecords told meta records = IfSome told (λ files. IsKept files meta records)
 
+-- The disk holds the log, with some records.
+abbrev pub Keeps : Option Files → MetaLog → Type 0
+Keeps told meta = (records : List Record) × HoldsRecords told meta records
+
 -- The disk, where told, was a log of records, and it holds this log with the same.
 pub record IsOpenedFrom (old new : Option Files) (meta : MetaLog) : Type 0 where
   pub text : IfSome old (λ files. (records : List Record) × IsRecordLog files records)

@@ -24,13 +24,14 @@ pub struct GateLog {
 }
 
 impl GateLog {
-    ghost use Rattle.meta_log.specs.Held.{HoldsLog, HoldsText, HoldsEither, IsOpened, stem_of, gate_of};
+    ghost use Rattle.meta_log.specs.Held.{Holds, HoldsLog, HoldsText, HoldsEither, IsOpened, stem_of, gate_of};
     ghost use Rattle.meta_log.specs.Faults.{IfDamaged};
     ghost use Rattle.meta_log.specs.Places.{place_behind, HoldsPlace, IsNext};
 
     /// Opens the log of a disk, and makes its first segment where none counts. Syncs first.
     pub fn open<D: Disk>(alloc: Global, disk: &mut D, stem: Stem) -> Result<GateLog, LogFault>
         requires { MayKeep D.MARKS_ONLY stem }
+        ensures held { IfOk result (Holds (D.files disk.new)) }
         ensures opened { IfOk result (λ log. IsOpened stem (D.files disk.old) (D.files disk.new) log) }
         ensures damaged { IfErr result (IfDamaged (λ file at.
             IfSome (D.files disk.old) (λ files. IsDamage stem files file at) × (D.files disk.new ≡ D.files disk.old))) }
@@ -47,9 +48,10 @@ impl GateLog {
 
     /// Adds a payload. Takes no memory. After `Failed` the log is to be opened again.
     pub fn append<D: Disk>(&mut self, disk: &mut D, text: &GateText) -> Result<(), Failed>
-        requires held { (payloads : List (List ℕ)) × HoldsLog (D.files disk.old) self.old payloads }
+        requires held { Holds (D.files disk.old) self.old }
         requires suits { Suits (stem_of self.old) text.now }
 
+        ensures held { OnOk result (Holds (D.files disk.new) self.new) }
         ensures appended { OnOk result ((payloads : List (List ℕ)) → HoldsLog (D.files disk.old) self.old payloads
             → HoldsLog (D.files disk.new) self.new (payloads ++ text.now ∷ [])) }
         ensures failed { OnErr result ((payloads : List (List ℕ)) → HoldsLog (D.files disk.old) self.old payloads
@@ -87,6 +89,7 @@ impl GateLog {
     ) -> Result<(Items<LogText>, Place), LogFault>
         requires { HoldsPlace (D.files disk.old) self.now place }
         ensures next { IfOk result (λ read. IsNext (D.files disk.old) self.now place room read.0 read.1) }
+        ensures behind { IfOk result (λ read. HoldsPlace (D.files disk.new) self.now read.1) }
         ensures damaged { IfErr result (IfDamaged (λ _ _. D.files disk.old ≡ None)) }
 
         ensures files { D.files disk.new ≡ D.files disk.old }

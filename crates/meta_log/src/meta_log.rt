@@ -35,11 +35,12 @@ pub struct MetaLog {
 
 impl MetaLog {
     ghost use Rattle.meta_log.specs.Faults.{IfDamaged};
-    ghost use Rattle.meta_log.specs.Kept.{front_of, HoldsRecordLog, HoldsRecords, HoldsEitherLog, IsOpenedFrom, IsRecordDamage, IsPast};
+    ghost use Rattle.meta_log.specs.Kept.{front_of, HoldsRecordLog, Keeps, HoldsRecords, HoldsEitherLog, IsOpenedFrom, IsRecordDamage, IsPast};
 
     /// Opens the log of records of a disk, and makes its first segment where none counts. Syncs first.
     pub fn open<D: Disk>(alloc: Global, disk: &mut D) -> Result<MetaLog, LogFault>
         requires { D.MARKS_ONLY ≡ false }
+        ensures held { IfOk result (Keeps (D.files disk.new)) }
         ensures opened { IfOk result (λ meta. IsOpenedFrom (D.files disk.old) (D.files disk.new) meta) }
         ensures damaged { IfErr result (IfDamaged (λ file at.
             IfSome (D.files disk.old) (λ files. IsRecordDamage files file at) × (D.files disk.new ≡ D.files disk.old))) }
@@ -72,10 +73,11 @@ impl MetaLog {
         time: u64,
         text: &GateText,
     ) -> Result<(), Failed>
-        requires held { (records : List Record) × HoldsRecords (D.files disk.old) self.old records }
+        requires held { Keeps (D.files disk.old) self.old }
         requires reads { (known : Record) × ReadsAs text.now known × (known.time ≡ time) }
         requires past { (front_of self.old).time < time }
 
+        ensures held { OnOk result (Keeps (D.files disk.new) self.new) }
         ensures appended { OnOk result ((records : List Record) (known : Record) → HoldsRecords (D.files disk.old) self.old records
             → ReadsAs text.now known → known.time ≡ time → HoldsRecords (D.files disk.new) self.new (records ++ known ∷ [])) }
         ensures failed { OnErr result ((records : List Record) (known : Record) → HoldsRecords (D.files disk.old) self.old records
@@ -104,7 +106,7 @@ impl MetaLog {
         after: u64,
         room: u32,
     ) -> Result<Items<LogText>, LogFault>
-        requires { (records : List Record) × HoldsRecords (D.files disk.old) self.now records }
+        requires { Keeps (D.files disk.old) self.now }
         ensures past { IfOk result (λ texts. IsPast (D.files disk.old) self.now after room texts) }
         ensures damaged { IfErr result (IfDamaged (λ _ _. D.files disk.old ≡ None)) }
 

@@ -1,7 +1,6 @@
 ghost use Rattle.std.specs.Prelude.{◌≡◌, ◌≤◌, List, false, length, IfOk};
 ghost use Rattle.std.specs.Bool.{OnTrue};
-ghost use Rattle.name_core.specs.declared.change.Record.{Record};
-ghost use Rattle.meta_log.specs.Kept.{HoldsRecords};
+ghost use Rattle.meta_log.specs.Kept.{Keeps};
 
 use super::*;
 use name_core::Record;
@@ -168,18 +167,19 @@ fn made_at(time: u8) -> [u8; 25] {
 }
 
 /// A text of a record past the first log's.
-fn later_text(alloc: Global) -> Result<LogText, AllocError> {
-    let mut bytes = FIRST_LOG[5..58].to_vec(alloc)?;
+fn later_text() -> [u8; 53] {
+    let mut bytes = [0; 53];
+    bytes.copy_from_slice(&FIRST_LOG[5..58]);
     bytes[1] = 0xff;
-    Ok(LogText::of(bytes))
+    bytes
 }
 
 /// Appends a record's text, where it is one and its time is past the last, and answers whether the disk
 /// took it.
 fn add<D: Disk>(alloc: Global, meta: &mut MetaLog, disk: &mut D, text: &[u8]) -> Result<bool, Fail>
-    requires held { (records : List Record) × HoldsRecords (D.files disk.old) meta.old records }
+    requires held { Keeps (D.files disk.old) meta.old }
     requires short { length text.now ≤ 67108864 }
-    ensures { IfOk result (λ taken. OnTrue taken ((records : List Record) × HoldsRecords (D.files disk.new) meta.new records)) }
+    ensures { IfOk result (λ taken. OnTrue taken (Keeps (D.files disk.new) meta.new)) }
 {
     let known = Record::read(alloc, text).map_err(|_| "no record")?;
     if known.time <= meta.front().time {
@@ -192,29 +192,58 @@ fn add<D: Disk>(alloc: Global, meta: &mut MetaLog, disk: &mut D, text: &[u8]) ->
     }
 }
 
+/// The times of the records that are read past one, where all are of `made_at`.
+fn times_after<D: Disk>(
+    alloc: Global,
+    meta: &MetaLog,
+    disk: &mut D,
+    after: u64,
+    room: u32,
+) -> Result<Vec<u8>, Fail>
+    requires { Keeps (D.files disk.old) meta.now }
+    ensures { D.files disk.new ≡ D.files disk.old }
+{
+    let texts = meta.read_after(alloc, disk, after, room)?;
+    let mut times = Vec::new(alloc);
+    for text in texts.as_slice() {
+        let time = *text.as_slice().get(1).ok_or("a text with no time")?;
+        if text.as_slice() != made_at(time).as_slice() {
+            return Err(Fail::from("another text"));
+        }
+        times.push(time)?;
+    }
+    Ok(times)
+}
+
 #[test]
 fn records_past_a_time_are_read(rt: HostRuntime) -> Result<(), Fail> {
-    let mut disk = disk(rt.alloc(), &[], &[])?;
-    let mut meta = MetaLog::open(rt.alloc(), &mut disk)?;
-    for time in [50, 51, 52] {
-        assert!(rt; add(rt.alloc(), &mut meta, &mut disk, &made_at(time))?);
-    }
+    let alloc = rt.alloc();
+    let mut disk = disk(alloc, &[], &[])?;
+    let mut meta = MetaLog::open(alloc, &mut disk)?;
+    assert!(rt; add(alloc, &mut meta, &mut disk, &made_at(50))?);
+    assert!(rt; add(alloc, &mut meta, &mut disk, &made_at(51))?);
+    assert!(rt; add(alloc, &mut meta, &mut disk, &made_at(52))?);
     assert_eq!(rt; meta.front(), Front { count: 3, time: 52 });
-    let table: [(u64, u32, &[u8]); 6] = [
-        (0, 10, &[50, 51, 52]),
-        (51, 10, &[52]),
-        (52, 10, &[]),
-        (0, 2, &[50, 51]),
-        (50, 1, &[51]),
-        (0, 0, &[]),
-    ];
-    for (after, room, times) in table {
-        let texts = meta.read_after(rt.alloc(), &mut disk, after, room)?;
-        assert_eq!(rt; texts.as_slice().len(), times.len(), "after {after}");
-        for (text, time) in texts.as_slice().iter().zip(times) {
-            assert_eq!(rt; text.as_slice(), made_at(*time).as_slice());
-        }
-    }
+    assert_eq!(rt;
+        times_after(alloc, &meta, &mut disk, 0, 10)?.as_slice(),
+        [50, 51, 52].as_slice()
+    );
+    assert_eq!(rt;
+        times_after(alloc, &meta, &mut disk, 51, 10)?.as_slice(),
+        [52].as_slice()
+    );
+    assert_eq!(rt;
+        times_after(alloc, &meta, &mut disk, 52, 10)?.as_slice(),
+        [].as_slice()
+    );
+    assert_eq!(rt;
+        times_after(alloc, &meta, &mut disk, 0, 2)?.as_slice(),
+        [50, 51].as_slice()
+    );
+    assert_eq!(rt;
+        times_after(alloc, &meta, &mut disk, 50, 1)?.as_slice(),
+        [51].as_slice()
+    );
     Ok(())
 }
 
@@ -225,8 +254,7 @@ fn an_append_whose_call_fails_leaves_the_record_out_or_in(rt: HostRuntime) -> Re
         let files: [(&[u8], &[u8]); 2] = [(b"log.00000001", &FIRST_LOG), (b"log.00000001.on", b"")];
         let mut disk = disk(rt.alloc(), &files, &[failing])?;
         let mut meta = MetaLog::open(rt.alloc(), &mut disk)?;
-        let text = later_text(rt.alloc())?;
-        let taken = add(rt.alloc(), &mut meta, &mut disk, text.as_slice())?;
+        let taken = add(rt.alloc(), &mut meta, &mut disk, &later_text())?;
         assert_eq!(rt; taken, failing == 99, "call {failing}");
         assert_eq!(rt;
             find(rt.alloc(), &mut disk)?,

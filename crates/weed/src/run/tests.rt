@@ -48,14 +48,10 @@ fn run_over(
     let mut words = Vec::new(alloc);
     words.push(Word::new(alloc, b"filer.once")?)?;
     words.push(Word::new(alloc, b"-dir=data")?)?;
-    let mut ticks = Vec::new(alloc);
-    for moment in moments {
-        ticks.push(moment)?;
-    }
     let world = World {
         source,
         host: MemHost::new(alloc, disk, Vec::new(alloc)),
-        clock: MemClock::new(ticks),
+        clock: MemClock::new(moments.to_vec(alloc)?),
     };
     let (exit, world) = weed(alloc, words.as_slice(), world);
     Ok(Ran {
@@ -181,7 +177,7 @@ fn each_call_of_the_disk_may_fail(rt: HostRuntime) -> Result<(), Fail> {
             assert_eq!(rt; ran.status, 2, "call {call}");
             let is_told = ran.sent() == DISK_FAULT.as_bytes();
             assert!(rt; is_told || ran.sent().is_empty(), "call {call}");
-            told += u32::from(is_told);
+            told = u32::saturating_add(told, u32::from(is_told));
         }
         let again = run_over(
             alloc,

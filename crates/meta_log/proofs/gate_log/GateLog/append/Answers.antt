@@ -1,4 +1,4 @@
-use Rattle.std.proofs.Common.{refl, subst, sym}
+use Rattle.std.proofs.Common.{[], ◌∷◌, ◌++◌, refl, subst, sym}
 use Rattle.std.proofs.lemmas.Result.{err_from_is_err_and}
 use Rattle.std.specs.Prelude.{IfSome}
 use Rattle.weed_base.specs.Files.{IsWithin, BothTold}
@@ -44,3 +44,11 @@ pub returns-clause-others : goal.returns-clause-others
 returns-clause-others g c =
     subst (λ name. BothTold (ChangesOnly name) (g.D.Disk.files c.args.disk.now) (g.D.Disk.files c.write_settled-2.new.disk)) c.first_segment-segment.ensures
     (others_twice _ _ _ _ c.in_ok-write_settled.ensures.others c.in_ok-write_settled-2.ensures.others)
+
+pub returns-clause-held : goal.returns-clause-held
+returns-clause-held g c =
+    let held = c.requires.held in (
+      held.0 ++ c.args.text.now ∷ [],
+      last_done (g.D.Disk.files c.args.disk.now) (g.D.Disk.files c.write_settled.new.disk) (g.D.Disk.files c.write_settled-2.new.disk) c.args.self.now c.args.text.now _ _ c.first_segment-segment.ensures c.ready-behind.ensures.bytes
+          c.ready-behind.ensures.short c.requires.suits c.in_ok-write_settled.ensures.files _ refl refl c.in_ok-write_settled-2.ensures.files held.0 held.1,
+    )

@@ -1,7 +1,7 @@
 use Rattle.std.proofs.Common.{◌∙◌}
 use Rattle.std.proofs.lemmas.Result.{err_from_is_err_and}
 use Rattle.meta_log.proofs.Faulted.{damaged_on}
-use Rattle.meta_log.proofs.Fetched.{told_next, told_undamaged}
+use Rattle.meta_log.proofs.Fetched.{told_next, told_undamaged, told_behind}
 use Rattle.meta_log.proofs.gate_log.GateLog.read_from.Goals as goal
 
 pub returns-in_err-texts-clause-damaged : goal.returns-in_err-texts-clause-damaged
@@ -16,3 +16,9 @@ pub returns-clause-next : goal.returns-clause-next
 returns-clause-next g c =
     told_next (g.D.Disk.files c.args.disk.now) (g.D.Disk.files c.begin.new.disk) c.first_segment-name.result c.args.self.now c.first_segment-name.ensures c.args.place c.in_ok-reading.reading c.args.room _ c.args.self.now.bounded
     c.in_ok-texts.texts.items c.of.result c.at.result c.begin.ensures.files c.of.ensures c.in_ok-reading.ensures.of c.in_ok-texts.ensures.texts (c.at.ensures.at ∙ c.in_ok-texts.ensures.place)
+
+pub returns-clause-behind : goal.returns-clause-behind
+returns-clause-behind g c =
+    told_behind (g.D.Disk.files c.args.disk.now) (g.D.Disk.files c.collect.new.disk) c.args.self.now c.args.place _ c.args.room c.of.result (c.collect.ensures.files ∙ c.begin.ensures.files) c.requires
+    (told_next (g.D.Disk.files c.args.disk.now) (g.D.Disk.files c.begin.new.disk) c.first_segment-name.result c.args.self.now c.first_segment-name.ensures c.args.place c.in_ok-reading.reading c.args.room _ c.args.self.now.bounded
+    c.in_ok-texts.texts.items c.of.result c.at.result c.begin.ensures.files c.of.ensures c.in_ok-reading.ensures.of c.in_ok-texts.ensures.texts (c.at.ensures.at ∙ c.in_ok-texts.ensures.place))

@@ -1,4 +1,4 @@
-use Rattle.std.proofs.Common.{ℕ, ◌+◌, ◌<◌, sym, subst, ap}
+use Rattle.std.proofs.Common.{[], ◌∷◌, ◌++◌, ℕ, ◌+◌, ◌<◌, sym, subst, ap}
 use Rattle.std.proofs.lemmas.Result.{err_from_is_err_and}
 use Rattle.meta_log.specs.declared.front.Front.{Front}
 use Rattle.weed_base.specs.Files.{BothTold}
@@ -21,3 +21,14 @@ returns-clause-appended g c records known held reads is =
     (subst (λ s. BothTold (ChangesOnly (segment_name s 1)) (g.D.Disk.files c.args.disk.now) (g.D.Disk.files c.append.new.disk)) c.args.self.now.is_log c.in_ok-append.ensures.others)
     c.in_ok-append.ensures.appended records known held reads (subst (λ n. (front_of c.args.self.now).time < n) (sym is) c.requires.past)
     (ap (λ (n : ℕ). let f : Front = record { count = c.args.self.now.front.count + 1; time = n } in f) (sym is))
+
+pub returns-clause-held : goal.returns-clause-held
+returns-clause-held g c =
+    let held = c.requires.held in
+    let reads = c.requires.reads in (
+      held.0 ++ reads.0 ∷ [],
+      record_appended (g.D.Disk.files c.args.disk.now) (g.D.Disk.files c.append.new.disk) c.args.self.now _ c.args.text.now
+          (subst (λ s. BothTold (ChangesOnly (segment_name s 1)) (g.D.Disk.files c.args.disk.now) (g.D.Disk.files c.append.new.disk)) c.args.self.now.is_log c.in_ok-append.ensures.others)
+          c.in_ok-append.ensures.appended held.0 reads.0 held.1 reads.1 (subst (λ n. (front_of c.args.self.now).time < n) (sym reads.2) c.requires.past)
+          (ap (λ (n : ℕ). let f : Front = record { count = c.args.self.now.front.count + 1; time = n } in f) (sym reads.2)),
+    )
