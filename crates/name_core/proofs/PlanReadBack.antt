@@ -9,7 +9,7 @@ use Rattle.name_core.specs.declared.command.PlanFault.{PlanFault}
 use Rattle.name_core.specs.Entry.{IsValid, new_directory}
 use Rattle.name_core.specs.Log.{end_of_time}
 use Rattle.name_core.specs.Plan.{record_time, recorded, Recorded, Plans, IsNewDirectory, MakesDirectories}
-use Rattle.name_core.specs.Readable.{FitTypes, PutsDirectory}
+use Rattle.name_core.specs.Readable.{FitTypes, FitsTypes, PutsDirectory}
 use Rattle.name_core.specs.RecordReading.{record_of}
 use Rattle.name_core.specs.RecordText.{path_of, HasValidEntry, CanBeWritten, record_text}
 use Rattle.name_core.proofs.PlanLemmas.{Makes, recorded_makes, record_time_rises}
@@ -28,10 +28,16 @@ new_fits time low = record {
   md5 = tt;
 }
 
-new_puts : (time : ℕ) → time ≤ end_of_time → (change : Change) → IsNewDirectory time change → PutsDirectory change
-new_puts time low (Put path entry) is =
-    (is.0, ap (λ e. e.kind) is.2, subst (λ e. FitTypes e.attributes) (sym is.2) (new_fits time low))
-new_puts time low (Drop path) is = absurd is
+new_puts : (time : ℕ) (change : Change) → IsNewDirectory time change → PutsDirectory change
+new_puts time (Put path entry) is = ap (λ e. e.kind) is.2
+new_puts time (Drop path) is = absurd is
+
+new_change_fits : (time : ℕ) → time ≤ end_of_time → (change : Change) → IsNewDirectory time change → FitsTypes change
+new_change_fits time low (Put path entry) is = record {
+  path = is.0;
+  values = subst (λ e. FitTypes e.attributes) (sym is.2) (new_fits time low);
+}
+new_change_fits time low (Drop path) is = absurd is
 
 new_is_valid : (time : ℕ) (change : Change) → IsNewDirectory time change → HasValidEntry change
 new_is_valid time (Put path entry) is = subst IsValid (sym is.2) (record { file_size = omega arith; mime = omega arith })
@@ -59,7 +65,8 @@ made_read_back clock last changes made low directories is =
       valid = All-weaker (IsNewDirectory time) HasValidEntry (new_is_valid time) made.changes own.each;
     } in
     let short = length-record time made own in
-    written_is_read made can (All-weaker (IsNewDirectory time) PutsDirectory (new_puts time rises.1) made.changes own.each) (omega arith)
+    let fits = All-weaker (IsNewDirectory time) FitsTypes (new_change_fits time rises.1) made.changes own.each in
+    written_is_read made can fits (All-weaker (IsNewDirectory time) PutsDirectory (new_puts time) made.changes own.each) (omega arith)
 
 pub plan_read_back : (clock last : ℕ) (changes : List Change) (result : Result (Option Record) PlanFault) → last ≤ end_of_time → MakesDirectories (record_time clock last) changes → Plans (recorded last (record_time clock last) changes) result → IfOk result (λ answer. IfSome answer (λ made. record_of (record_text made) ≡ Ok made))
 plan_read_back clock last changes (Ok (Some made)) low directories is = made_read_back clock last changes made low directories is

@@ -26,7 +26,7 @@ use Rattle.name_core.specs.Messages.{AttributesText, attributes_in, EntryFieldsT
 use Rattle.name_core.specs.Steps.{attributes_with_number, attributes_with_text, entry_with_number, entry_with_text, event_with_text}
 use Rattle.name_core.specs.RecordText.{attributes_text, directory_bit, directory_of, name_of, path_of, change_text, record_text, CanBeWritten, HasValidEntry}
 use Rattle.name_core.specs.RecordReading.{are_good, attributes_of, entry_of, path_in, directory_put, if_stays, entry_at, entries_at, event_at, change_of, change_at, each_change_at, all_of, or_wire, changes_in, record_with, record_from, record_of}
-use Rattle.name_core.specs.Readable.{FitTypes, PutsDirectory}
+use Rattle.name_core.specs.Readable.{FitTypes, FitsTypes, PutsDirectory}
 use Rattle.weed_base.specs.Path.{text_of}
 use Rattle.name_core.proofs.ReadPaths.{path_found}
 use Rattle.name_core.proofs.MessageLemmas.{field_with, attributes_number, attributes_text as attributes_text_taken, entry_number, entry_text as entry_text_taken, event_text}
@@ -260,16 +260,16 @@ entry_again : (name : List ℕ) (entry : Entry) → entry.kind ≡ Directory →
 entry_again name entry kind fits = λ i. record { kind = sym kind i; attributes = attributes_again entry.attributes fits i }
 
 -- A Put of a directory means itself.
-put_means : (path : List (List ℕ)) (entry : Entry) (note : List ℕ) → PutsDirectory (Put path entry) → path ≢ [] → IsValid entry
+put_means : (path : List (List ℕ)) (entry : Entry) (note : List ℕ) → entry.kind ≡ Directory → FitsTypes (Put path entry) → path ≢ [] → IsValid entry
     → change_of (put_parts (text_of (directory_of path)) note (spelled_entry (name_of path) entry.attributes)) ≡ Some (Put path entry)
-put_means path entry note puts filled valid =
+put_means path entry note kind fits filled valid =
     let parts : EntryParts = spelled_entry (name_of path) entry.attributes in
     let directory : List ℕ = text_of (directory_of path) in
-    let good : are_good (spelled_attributes entry.attributes) ≡ true = good_again entry.attributes puts.2 valid.file_size valid.mime in
+    let good : are_good (spelled_attributes entry.attributes) ≡ true = good_again entry.attributes fits.values valid.file_size valid.mime in
     let put : directory_put directory parts ≡ Some (Put path entry) =
     ap (λ b. cond (b && true) (option_map (λ p. Put p (entry_of parts)) (path_in directory (name_of path))) None) good
-    ∙ ap (option_map (λ p. Put p (entry_of parts))) (path_found path puts.0 filled)
-    ∙ ap (λ e. Some (Put path e)) (entry_again (name_of path) entry puts.1 puts.2) in
+    ∙ ap (option_map (λ p. Put p (entry_of parts))) (path_found path fits.path filled)
+    ∙ ap (λ e. Some (Put path e)) (entry_again (name_of path) entry kind fits.values) in
     ap (option_and_then (if_stays directory None)) put
 
 -- ---- Lengths of what stands inside
@@ -284,14 +284,14 @@ inside_bytes n b =
       | inr some ↦ subst (λ t. length b ≤ length (cond t [] (message_field n b))) (sym some.0) (inside_message n b)
     ]
 
-put_again : (path : List (List ℕ)) (entry : Entry) → PutsDirectory (Put path entry) → path ≢ [] → IsValid entry → length (change_text (Put path entry)) < 2 ^ 64
+put_again : (path : List (List ℕ)) (entry : Entry) → entry.kind ≡ Directory → FitsTypes (Put path entry) → path ≢ [] → IsValid entry → length (change_text (Put path entry)) < 2 ^ 64
     → change_at (change_text (Put path entry)) ≡ Ok (Some (Put path entry))
-put_again path entry puts filled valid short =
+put_again path entry kind fits filled valid short =
     let directory : List ℕ = text_of (directory_of path) in
     let attributes : List ℕ = attributes_text entry.attributes in
     let inner : List ℕ = directory_text (name_of path) attributes in
     let text : change_text (Put path entry) ≡ put_text directory inner =
-    ap (λ kind. put_text directory (bytes_field 1 (name_of path) ++ varint_field 2 (directory_bit kind) ++ message_field 4 attributes)) puts.1 in
+    ap (λ k. put_text directory (bytes_field 1 (name_of path) ++ varint_field 2 (directory_bit k) ++ message_field 4 attributes)) kind in
     let long : length (change_text (Put path entry)) ≡ length (bytes_field 1 directory) + length (message_field 2 (message_field 2 inner)) =
     ap length text ∙ length-append (bytes_field 1 directory) (message_field 2 (message_field 2 inner)) in
     let note : length (message_field 2 inner) < 2 ^ 64 = omega (arith, inside_message 2 (message_field 2 inner)) in
@@ -300,16 +300,16 @@ put_again path entry puts filled valid short =
     let name : length (name_of path) < 2 ^ 64 = omega (arith, inside_bytes 1 (name_of path), length-append (bytes_field 1 (name_of path)) (varint_field 2 1)) in
     let room : length attributes < 2 ^ 64 = omega (arith, inside_message 4 attributes) in
     let above : length directory < 2 ^ 64 = omega (arith, inside_bytes 1 directory) in
-    let read : entry_at inner ≡ Ok (spelled_entry (name_of path) entry.attributes) = entry_read (name_of path) entry.attributes puts.2 (omega (arith, valid.mime)) name room in
+    let read : entry_at inner ≡ Ok (spelled_entry (name_of path) entry.attributes) = entry_read (name_of path) entry.attributes fits.values (omega (arith, valid.mime)) name room in
     ap change_at text
     ∙ ap (λ r. r >>= λ event. Ok (change_of event)) (put_read directory inner _ above body note read)
-    ∙ ap Ok (put_means path entry inner puts filled valid)
+    ∙ ap Ok (put_means path entry inner kind fits filled valid)
 
 -- ---- The record
 
-change_again : (change : Change) → PutsDirectory change → path_of change ≢ [] → HasValidEntry change → length (change_text change) < 2 ^ 64 → change_at (change_text change) ≡ Ok (Some change)
-change_again (Put path entry) puts filled valid short = put_again path entry puts filled valid short
-change_again (Drop path) puts filled valid short = absurd puts
+change_again : (change : Change) → PutsDirectory change → FitsTypes change → path_of change ≢ [] → HasValidEntry change → length (change_text change) < 2 ^ 64 → change_at (change_text change) ≡ Ok (Some change)
+change_again (Put path entry) puts fits filled valid short = put_again path entry puts fits filled valid short
+change_again (Drop path) puts fits filled valid short = absurd puts
 
 abbrev event_fields : List Change → List FieldText
 event_fields changes = map (λ change. field_with 2 (Bytes (change_text change))) changes
@@ -326,16 +326,16 @@ Spells-events (change ∷ changes) short =
     (Spells-events changes (omega arith))
 
 -- Each event means its change.
-each_again : (changes : List Change) → All PutsDirectory changes → All (λ change. path_of change ≢ []) changes → All HasValidEntry changes → length (events_text changes) < 2 ^ 64
+each_again : (changes : List Change) → All PutsDirectory changes → All FitsTypes changes → All (λ change. path_of change ≢ []) changes → All HasValidEntry changes → length (events_text changes) < 2 ^ 64
     → each_change_at (map change_text changes) ≡ Ok (map Some changes)
-each_again [] puts filled valid short = refl
-each_again (change ∷ changes) puts filled valid short =
+each_again [] puts fits filled valid short = refl
+each_again (change ∷ changes) puts fits filled valid short =
     let both : length (events_text (change ∷ changes)) ≡ length (message_field 2 (change_text change)) + length (events_text changes) = length-append (message_field 2 (change_text change)) (events_text changes) in
     let first : change_at (change_text change) ≡ Ok (Some change) =
-    change_again change (All-head PutsDirectory change changes puts) (All-head (λ c. path_of c ≢ []) change changes filled) (All-head HasValidEntry change changes valid)
+    change_again change (All-head PutsDirectory change changes puts) (All-head FitsTypes change changes fits) (All-head (λ c. path_of c ≢ []) change changes filled) (All-head HasValidEntry change changes valid)
     (omega (arith, inside_message 2 (change_text change))) in
     let rest : each_change_at (map change_text changes) ≡ Ok (map Some changes) =
-    each_again changes (All-tail PutsDirectory change changes puts) (All-tail (λ c. path_of c ≢ []) change changes filled) (All-tail HasValidEntry change changes valid) (omega arith) in
+    each_again changes (All-tail PutsDirectory change changes puts) (All-tail FitsTypes change changes fits) (All-tail (λ c. path_of c ≢ []) change changes filled) (All-tail HasValidEntry change changes valid) (omega arith) in
     ap (λ r. r >>= λ c. each_change_at (map change_text changes) >>= λ more. Ok (c ∷ more)) first ∙ ap (λ r. r >>= λ more. Ok (Some change ∷ more)) rest
 
 all_again : (changes : List Change) → all_of (map Some changes) ≡ Some changes
@@ -372,8 +372,8 @@ with_time r can =
     (and_true _ _ (and_true _ _ (le-leb 1 (length r.changes) (filled_length r.changes can.filled)) (le-leb 1 r.time can.after_start)) (le-leb r.time end_of_time can.before_end))
 
 -- What is written is read back.
-pub written_is_read : (r : Record) → CanBeWritten r → All PutsDirectory r.changes → length (record_text r) < 2 ^ 64 → record_of (record_text r) ≡ Ok r
-written_is_read r can puts short =
+pub written_is_read : (r : Record) → CanBeWritten r → All FitsTypes r.changes → All PutsDirectory r.changes → length (record_text r) < 2 ^ 64 → record_of (record_text r) ≡ Ok r
+written_is_read r can fits puts short =
     let fields : List FieldText = number_fields 1 r.time ++ event_fields r.changes in
     let both : length (record_text r) ≡ length (varint_field 1 r.time) + length (events_text r.changes) = length-append (varint_field 1 r.time) (events_text r.changes) in
     let events : length (events_text r.changes) < 2 ^ 64 = omega arith in
@@ -382,7 +382,7 @@ written_is_read r can puts short =
     let texts : messages_at 2 fields ≡ map change_text r.changes =
     filter_map-append (text_in 2) (number_fields 1 r.time) (event_fields r.changes) ∙ ap (λ front. front ++ messages_at 2 (event_fields r.changes)) (no_message r.time) ∙ messages_again r.changes in
     let changes : changes_in fields ≡ Ok r.changes =
-    ap (λ read. or_wire read (λ meant. ok_or (all_of meant) faults.BadRecord)) (ap each_change_at texts ∙ each_again r.changes puts can.rootless can.valid events)
+    ap (λ read. or_wire read (λ meant. ok_or (all_of meant) faults.BadRecord)) (ap each_change_at texts ∙ each_again r.changes puts fits can.rootless can.valid events)
     ∙ ap (λ o. ok_or o faults.BadRecord) (all_again r.changes) in
     ap (λ read. or_wire read (λ f. record_from (last_number 1 f) (changes_in f))) whole
     ∙ ap (λ time. record_from time (changes_in fields)) (time_again r.time r.changes can.after_start)

@@ -4,7 +4,7 @@ ghost use Rattle.name_core.specs.declared.command.Command.{Command};
 ghost use Rattle.name_core.specs.Namespace.{Namespace, IsWellFormed, KeepsWellFormed};
 ghost use Rattle.name_core.specs.Log.{end_of_time, last_time, fold, IsSound, after_record};
 ghost use Rattle.name_core.specs.Plan.{Recorded, plan_of};
-ghost use Rattle.name_core.specs.Readable.{PutsDirectory};
+ghost use Rattle.name_core.specs.Readable.{FitsTypes, PutsDirectory};
 ghost use Rattle.name_core.specs.RecordReading.{record_of};
 ghost use Rattle.name_core.specs.RecordText.{CanBeWritten, record_text};
 
@@ -30,6 +30,6 @@ pub fn plans_keep_logs_sound()
 
 /// What is written is read back. Until files are read, this is so of records of directories.
 pub fn written_records_are_read()
-    ensures { (written : Record) → CanBeWritten written → All PutsDirectory written.changes → length (record_text written) < 2 ^ 64
-        → record_of (record_text written) ≡ Ok written }
+    ensures { (written : Record) → CanBeWritten written → All FitsTypes written.changes → All PutsDirectory written.changes
+        → length (record_text written) < 2 ^ 64 → record_of (record_text written) ≡ Ok written }
 {}

@@ -1,5 +1,7 @@
-ghost use Rattle.std.specs.Prelude.{◌≡◌, [], IfOk, OnOk, unwrap_or};
-ghost use Rattle.weed_base.specs.Path.{text_of};
+ghost use Rattle.std.specs.Prelude.{◌≡◌, [], All, Ok, IfOk, IfSome, OnOk, length, unwrap_or};
+ghost use Rattle.weed_base.specs.Path.{IsPath, text_of};
+ghost use Rattle.name_core.specs.Readable.{FitTypes, FitsTypes, HasFittingValues, PutsDirectory};
+ghost use Rattle.name_core.specs.RecordReading.{record_of};
 ghost use Rattle.name_core.specs.RecordText.{CanBeWritten, attributes_text, change_text, directory_bit, directory_of, entry_text, name_of, notification_text, record_text};
 
 use crate::change::{Change, Record};
@@ -9,10 +11,12 @@ use std::alloc::{AllocError, Global};
 use weed_base::{LogText, Path};
 
 impl Record {
-    /// The text of the record, as a log keeps it.
+    /// The text of the record, as a log keeps it. It is read back to the same record; until files are read,
+    /// this is so of records of directories.
     pub fn write(&self, alloc: Global) -> Result<LogText, AllocError>
         requires { CanBeWritten self.now }
-        ensures { IfOk result (λ text. text ≡ record_text self.now) }
+        ensures text { IfOk result (λ text. text ≡ record_text self.now) }
+        ensures read_back { All PutsDirectory self.now.changes → IfOk result (λ text. record_of text ≡ Ok self.now) }
     {
         let mut text = Writer::new(alloc);
         text.varint(1, self.time)?;
@@ -46,7 +50,8 @@ impl Buffers {
     }
 
     fn set_event(&mut self, change: &Change) -> Result<(), AllocError>
-        ensures { OnOk result (self.new.event ≡ change_text change.now) }
+        ensures text { OnOk result (self.new.event ≡ change_text change.now) }
+        ensures fits { OnOk result (FitsTypes change.now) }
     {
         self.set_notification(change)?;
         self.event.clear();
@@ -55,7 +60,8 @@ impl Buffers {
     }
 
     fn set_notification(&mut self, change: &Change) -> Result<(), AllocError>
-        ensures { OnOk result (self.new.notification ≡ notification_text change.now) }
+        ensures text { OnOk result (self.new.notification ≡ notification_text change.now) }
+        ensures fits { OnOk result (HasFittingValues change.now) }
     {
         match change {
             Change::Put(path, entry) => {
@@ -73,7 +79,8 @@ impl Buffers {
     }
 
     fn set_entry(&mut self, name: &[u8], entry: &Entry) -> Result<(), AllocError>
-        ensures { OnOk result (self.new.entry ≡ entry_text name.now entry.now) }
+        ensures text { OnOk result (self.new.entry ≡ entry_text name.now entry.now) }
+        ensures fits { OnOk result (FitTypes entry.now.attributes) }
     {
         self.attributes.clear();
         write_attributes(&mut self.attributes, &entry.attributes)?;
@@ -86,7 +93,8 @@ impl Buffers {
 
 fn write_attributes(into: &mut Writer, attributes: &Attributes) -> Result<(), AllocError>
     requires { into.old ≡ [] }
-    ensures { OnOk result (into.new ≡ attributes_text attributes.now) }
+    ensures text { OnOk result (into.new ≡ attributes_text attributes.now) }
+    ensures fits { OnOk result (FitTypes attributes.now) }
 {
     into.varint(1, attributes.file_size)?;
     into.varint(2, attributes.mtime)?;
@@ -110,7 +118,8 @@ fn bit_of(kind: Kind) -> u64
 
 /// The bytes of the digest, none where it isn't known.
 fn digest_of(attributes: &Attributes) -> &[u8]
-    ensures { result.now ≡ unwrap_or attributes.now.md5 [] }
+    ensures digest { result.now ≡ unwrap_or attributes.now.md5 [] }
+    ensures fits { IfSome attributes.now.md5 (λ digest. length digest ≡ 16) }
 {
     match &attributes.md5 {
         Some(digest) => digest,
@@ -127,7 +136,8 @@ fn name_text(path: &Path) -> &[u8]
 
 /// The text of a path's parent, for the root its own.
 fn directory_text(path: &Path) -> &[u8]
-    ensures { result.now ≡ text_of (directory_of path.now) }
+    ensures text { result.now ≡ text_of (directory_of path.now) }
+    ensures valid { IsPath path.now }
 {
     let text = path.text();
     let Some(name) = path.name() else {

@@ -5,8 +5,8 @@ use Rattle.name_core.proofs.PathTexts.{EndsIn, EndsIn-last, only_root_lacks, len
 use Rattle.name_core.proofs.record_text.directory_text.Goals as goal
 
 -- The root is its own directory.
-pub returns-in_default : goal.returns-in_default
-returns-in_default c =
+pub returns-in_default-clause-text : goal.returns-in_default-clause-text
+returns-in_default-clause-text c =
     c.text-text.ensures.text
     ∙ subst (λ p. text_of p ≡ text_of (directory_of p)) (sym (only_root_lacks _ c.in_default.ensures.last)) refl
 
@@ -24,13 +24,13 @@ overflow_sub-slash-2 c =
     let text = ap length c.text-text.ensures.text in
     omega arith
 
-pub returns-then-slash-eq0 : goal.returns-then-slash-eq0
-returns-then-slash-eq0 c =
+pub returns-then-slash-eq0-clause-text : goal.returns-then-slash-eq0-clause-text
+returns-then-slash-eq0-clause-text c =
     let text = ap length c.text-text.ensures.text in
     directory_at_front _ c.in-Some.name.now (EndsIn-last _ _ c.in-Some.ensures.last) (omega arith)
 
-pub returns-else-slash-eq0 : goal.returns-else-slash-eq0
-returns-else-slash-eq0 c =
+pub returns-else-slash-eq0-clause-text : goal.returns-else-slash-eq0-clause-text
+returns-else-slash-eq0-clause-text c =
     let text = ap length c.text-text.ensures.text in
     let not_at_front : length (text_of c.args.path.now) - length c.in-Some.name.now - 1 ≢ 0 = omega arith in
     subst (λ t. take (length t - length c.in-Some.name.now - 1) t ≡ text_of (directory_of c.args.path.now)) (sym c.text-text.ensures.text)

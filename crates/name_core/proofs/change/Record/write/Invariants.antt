@@ -1,10 +1,13 @@
-use Rattle.std.proofs.Common.{◌≡◌, ◌++◌, take}
+use Rattle.std.proofs.Common.{◌≡◌, ◌++◌, take, All}
 use Rattle.std.specs.List.{flat_map}
 use Rattle.proto_wire.specs.Text.{varint_field, message_field}
+use Rattle.name_core.specs.Readable.{FitsTypes}
 use Rattle.name_core.specs.RecordText.{change_text}
 use Rattle.name_core.proofs.change.Record.write.Given as goal
 
--- The time and the events so far
+-- The time and the events so far, whose changes fit their types
 abbrev pub invariant-loop-change : goal.invariant-loop-change
-invariant-loop-change l =
-    l.text ≡ varint_field 1 l.self.time ++ flat_map (λ change. message_field 2 (change_text change)) (take l.change-index l.change-items)
+invariant-loop-change l = record {
+  text : l.text ≡ varint_field 1 l.self.time ++ flat_map (λ change. message_field 2 (change_text change)) (take l.change-index l.change-items);
+  fits : All FitsTypes (take l.change-index l.change-items);
+}
