@@ -1,6 +1,6 @@
 -- What reading a path, or joining a name to it, finds.
-use Rattle.std.proofs.Common.{◌≡◌, ◌≢◌, ℕ, false, cond, eqb, List, [], ◌∷◌, ◌++◌, Option, None, Some, Result, Ok, Err, sym, ap, ◌∙◌, subst, All}
-use Rattle.std.specs.Prelude.{is_none, IfOk, IsOkUnless, MatchOption, MatchResult, option_and_then}
+use Rattle.std.proofs.Common.{◌≡◌, ◌≢◌, ℕ, Bool, true, false, cond, eqb, List, [], ◌∷◌, ◌++◌, Option, None, Some, Result, Ok, Err, refl, sym, ap, ◌∙◌, subst, All}
+use Rattle.std.specs.Prelude.{is_none, IfOk, IsErr, IsOkUnless, MatchOption, MatchResult, option_and_then}
 use Rattle.std.specs.declared.alloc.AllocError.{AllocError}
 use Rattle.std.specs.List.{list_any}
 use Rattle.std.proofs.lemmas.List.Elements.{All-head, All-tail}
@@ -17,16 +17,19 @@ use Rattle.name_core.proofs.PathTexts.{directory_and_name}
 -- What stands for a path, and no path where there is a fault in it
 abbrev pub IsIfPath : Result (List (List ℕ)) PathFault → Result (Option (List (List ℕ))) AllocError → Type 0
 IsIfPath read found =
-    MatchResult read (λ path. found ≡ Ok (Some path)) (λ fault. IfOk found (λ o. (o ≡ None) × (fault ≢ Memory)))
+    MatchResult read (λ path. found ≡ Ok (Some path)) (λ fault. (fault ≡ Memory → IsErr found) × (fault ≢ Memory → found ≡ Ok None))
+
+not_err : (o : Option (List (List ℕ))) → IsErr {T = Option (List (List ℕ))} {E = AllocError} (Ok o) → ⊥
+not_err o is = let e : ◌≡◌ {A = Bool} false true = is in cc
 
 found_is : (fault : Option PathFault) (value : List (List ℕ)) (read : Result (List (List ℕ)) PathFault) (found : Result (Option (List (List ℕ))) AllocError)
     → IfOk read (λ path. path ≡ value) → MatchOption fault (IsOkUnless read Memory) (λ f. read ≡ Err f) → IsIfPath read found
     → IfOk found (λ o. o ≡ cond (is_none fault) (Some value) None)
 found_is None value (Ok path) found is refused made = subst (λ r. IfOk r (λ o. o ≡ Some value)) (sym made) (ap Some is)
-found_is None value (Err e) (Ok o) is refused made = absurd (made.1 refused)
+found_is None value (Err e) (Ok o) is refused made = absurd (not_err o (made.0 refused))
 found_is None value (Err e) (Err f) is refused made = tt
 found_is (Some fault) value (Ok path) found is refused made = absurd cc
-found_is (Some fault) value (Err e) (Ok o) is refused made = made.0
+found_is (Some fault) value (Err e) (Ok o) is refused made = subst (λ r. IfOk r (λ x. x ≡ None)) (sym (made.1 (λ memory. not_err o (made.0 memory)))) refl
 found_is (Some fault) value (Err e) (Err f) is refused made = tt
 
 value_is : (text : List ℕ) (read : Result (List (List ℕ)) PathFault) → IfOk read (λ path. IsPath path × (text ≡ text_of path)) → IfOk read (λ path. path ≡ parts_in text)

@@ -1,5 +1,5 @@
 //! What the messages of an event mean: a change, where they mean anything.
-ghost use Rattle.std.specs.Prelude.{◌≡◌, ◌≢◌, ◌==◌, ◌&&◌, ◌||◌, ◌^◌, if◌then◌else◌, IfOk, IsTrue, length, nat_le, nat_lt, Some, None, MatchResult};
+ghost use Rattle.std.specs.Prelude.{◌≡◌, ◌≢◌, ◌==◌, ◌&&◌, ◌||◌, ◌^◌, if◌then◌else◌, IfOk, IsErr, IsTrue, length, nat_le, nat_lt, Some, None, MatchResult};
 ghost use Rattle.weed_base.specs.Path.{text_of};
 ghost use Rattle.name_core.specs.RecordReading.{are_good, attributes_of, change_of, directory_of_new, directory_put, entry_of, is_entry, path_in, path_read, path_with, stays};
 
@@ -100,11 +100,11 @@ fn path_below(alloc: Global, top: &Path, name: &[u8]) -> Result<Option<Path>, Al
     if_path(top.join_part(alloc, name))
 }
 
-/// No path where there is a fault in it.
+/// No path where there is a fault in it, and an `Err` exactly for want of memory. Takes no memory.
 fn if_path(path: Result<Path, PathFault>) -> Result<Option<Path>, AllocError>
     ensures { MatchResult path
         (λ found. result ≡ Ok (Some found))
-        (λ fault. IfOk result (λ found. (found ≡ None) × (fault ≢ PathFault.Memory))) }
+        (λ fault. (fault ≡ PathFault.Memory → IsErr result) × (fault ≢ PathFault.Memory → result ≡ Ok None)) }
 {
     match path {
         Ok(path) => Ok(Some(path)),
