@@ -21,3 +21,4 @@ pub mod Fetched
 pub mod Skipped
 pub mod Batches
 pub mod Damage
+pub mod RecordPlaces

@@ -14,3 +14,4 @@ pub mod Places
 pub mod Records
 pub mod Skip
 pub mod Kept
+pub mod RecordPlaces

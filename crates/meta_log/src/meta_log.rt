@@ -14,6 +14,7 @@ use crate::gate_log::GateLog;
 use crate::gate_text::GateText;
 use crate::left::collect;
 use crate::opening::open_first;
+use crate::place::Place;
 use crate::reading::Reading;
 use crate::records::{RisingRecords, skip_past};
 use crate::stem::{Stem, first_segment};
@@ -36,6 +37,8 @@ pub struct MetaLog {
 impl MetaLog {
     ghost use Rattle.meta_log.specs.Faults.{IfDamaged};
     ghost use Rattle.meta_log.specs.Kept.{front_of, HoldsRecordLog, Keeps, HoldsRecords, HoldsEitherLog, IsOpenedFrom, IsRecordDamage, IsPast};
+    ghost use Rattle.meta_log.specs.Places.{place_behind};
+    ghost use Rattle.meta_log.specs.RecordPlaces.{KeepsPlace, AreNext};
 
     /// Opens the log of records of a disk, and makes its first segment where none counts. Syncs first.
     pub fn open<D: Disk>(alloc: Global, disk: &mut D) -> Result<MetaLog, LogFault>
@@ -128,6 +131,34 @@ impl MetaLog {
             MOST_BYTES,
         )?;
         Ok(Items::of(texts))
+    }
+
+    /// The place of the first record. Takes no memory.
+    pub fn start(&self) -> Place
+        ensures { result ≡ place_behind [] }
+    {
+        self.log.start()
+    }
+
+    /// The texts of the next records from a place on, and the place behind them: at most `room`, however
+    /// many bytes they have.
+    pub fn read_from<D: Disk>(
+        &self,
+        alloc: Global,
+        disk: &mut D,
+        place: Place,
+        room: u32,
+    ) -> Result<(Items<LogText>, Place), LogFault>
+        requires { KeepsPlace (D.files disk.old) self.now place }
+        ensures next { IfOk result (λ read. AreNext (D.files disk.old) self.now place room read.0 read.1) }
+        ensures behind { IfOk result (λ read. KeepsPlace (D.files disk.new) self.now read.1) }
+        ensures damaged { IfErr result (IfDamaged (λ _ _. D.files disk.old ≡ None)) }
+
+        ensures files { D.files disk.new ≡ D.files disk.old }
+        ensures cause { IsCauseOf (D.faults disk.old) (D.faults disk.new) (IsErrOf result LogFault.DiskFault) }
+        ensures sent { (D.sent disk.new ≡ D.sent disk.old) × (D.send_faults disk.new ≡ D.send_faults disk.old) }
+    {
+        self.log.read_from(alloc, disk, place, room)
     }
 
     /// How many records there are, and the time of the last. Takes no memory.
