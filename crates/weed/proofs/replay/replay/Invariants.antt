@@ -1,17 +1,17 @@
-use Rattle.std.proofs.Common.{◌≡◌, ◌-◌, ◌^◌, ◌≤◌}
+use Rattle.std.proofs.Common.{◌≡◌, ◌≤◌}
 use Rattle.weed.specs.Replay.{HoldsTaken}
 use Rattle.weed.proofs.replay.replay.Given as goal
 
-abbrev pub invariant-loop-names : goal.invariant-loop-names
-invariant-loop-names g l =
+abbrev pub invariant-loop-rest : goal.invariant-loop-rest
+invariant-loop-rest g l =
     let disk = g.D.Disk in
     record {
       files : disk.files l.disk ≡ disk.files l.fn.disk;
-      taken : HoldsTaken (disk.files l.fn.disk) l.log l.names l.after;
+      taken : HoldsTaken (disk.files l.fn.disk) l.log l.names l.rest.place l.rest.count;
       faults : disk.faults l.fn.disk ≤ disk.faults l.disk;
       sent : disk.sent l.disk ≡ disk.sent l.fn.disk;
       send_faults : disk.send_faults l.disk ≡ disk.send_faults l.fn.disk;
     }
 
-abbrev pub decreases-loop-names : goal.decreases-loop-names
-decreases-loop-names g l = 2 ^ 64 - l.after
+abbrev pub decreases-loop-rest : goal.decreases-loop-rest
+decreases-loop-rest g l = l.rest.count

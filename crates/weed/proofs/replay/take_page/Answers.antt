@@ -1,33 +1,36 @@
-use Rattle.std.proofs.Common.{◌≡◌, ◌<◌, length, sym, ap, ◌∙◌, arith}
-use Rattle.std.proofs.lemmas.List.{nil_from_length}
+use Rattle.std.proofs.Common.{◌<◌, ◌≡◌, ◌-◌, List, ℕ, length, sym, ap, ◌∙◌, subst, arith}
 use Rattle.std.proofs.lemmas.Bool.Decides.{nat_tests}
 use Rattle.weed.specs.NameList.{names_of}
-use Rattle.weed.specs.Replay.{Takes, AreRising}
-use Rattle.weed.proofs.ReplayLemmas.{all_taken, more_taken, takes_later, untold}
+use Rattle.weed.specs.Replay.{Takes, AreUnreadable, HoldsTaken}
+use Rattle.weed.proofs.ReplayLemmas.{taken_keeps, more_taken, untold_empty, untold_unread}
+use Rattle.weed.proofs.replay.take_page.Goals.{then-is_empty-via-then-is_empty, then-is_empty-via-else-is_empty+in_ok-take_texts+then-not-branch}
 use Rattle.weed.proofs.replay.take_page.Goals as goal
 
-pub returns-then-is_empty-clause-taken : goal.returns-then-is_empty-clause-taken
-returns-then-is_empty-clause-taken g c =
-    let empty : length c.as_slice.result.now ≡ 0 = grind (arith, nat_tests, c.if-is_empty.ensures) in
-    all_taken (g.D.Disk.files c.args.disk.now) c.args.log.now c.args.names.now c.args.after c.in_ok-page.page
-    (sym c.as_slice.ensures ∙ nil_from_length c.as_slice.result.now empty) c.requires.taken c.in_ok-page.ensures.past
+pub read_from-requires : goal.read_from-requires
+read_from-requires g c = taken_keeps (g.D.Disk.files c.args.disk.now) c.args.log.now c.args.names.now c.args.rest.place c.args.rest.count c.requires.taken
 
-pub returns-in-Some-clause-taken : goal.returns-in-Some-clause-taken
-returns-in-Some-clause-taken g c =
-    let takes = rw c.in-Some.is at c.in_ok-last.ensures in
-    more_taken (g.D.Disk.files c.args.disk.now) c.args.log.now c.args.names.now c.take_texts.new.names c.args.after c.in-Some.last c.in_ok-page.page
-    c.requires.taken c.in_ok-page.ensures.past (rw c.as_slice-2.ensures at takes)
+pub returns-then-is_empty-clause-damaged : goal.returns-then-is_empty-clause-damaged
+returns-then-is_empty-clause-damaged g c =
+    let told = g.D.Disk.files c.args.disk.now in
+    let texts_are = c.as_slice-texts.ensures in
+    rw c.unreadable.ensures (elim c.then-is_empty.branch [
+      | then-is_empty-via-then-is_empty w ↦
+          let none : length c.as_slice-texts.result.now ≡ 0 = grind (arith, nat_tests, w.if-is_empty.ensures) in
+          untold_empty told c.args.log.now c.args.names.now c.args.rest.place c.in_ok-page.place c.args.rest.count 4096 c.in_ok-page.page
+          c.requires.left (omega arith) c.requires.taken c.in_ok-page.ensures.next (ap (λ (l : List (List ℕ)). length l) (sym texts_are) ∙ none)
+      | then-is_empty-via-else-is_empty+in_ok-take_texts+then-not-branch w ↦
+          let unread : AreUnreadable c.as_slice-texts.result.now = rw w.if-not-branch.true at w.in_ok-take_texts.ensures in
+          untold_unread told c.args.log.now c.args.names.now c.args.rest.place c.in_ok-page.place c.args.rest.count 4096 c.in_ok-page.page
+          c.requires.taken c.in_ok-page.ensures.next (subst AreUnreadable texts_are unread)
+    ])
 
-pub returns-in-Some-clause-later : goal.returns-in-Some-clause-later
-returns-in-Some-clause-later g c =
-    let takes = rw c.in-Some.is at c.in_ok-last.ensures in
-    let filled : 0 < length c.as_slice.result.now = grind (arith, nat_tests, c.if-is_empty.ensures) in
-    takes_later c.args.after c.in-Some.last c.in_ok-page.page (names_of c.args.names.now) (names_of c.take_texts.new.names)
-    (rw c.as_slice-2.ensures at takes) (rw c.as_slice.ensures at filled)
-
-pub returns-clause-damaged : goal.returns-clause-damaged
-returns-clause-damaged g c =
-    let refused = rw c.in-None.is at c.in_ok-last.ensures in
-    rw c.unreadable.ensures
-    (untold (g.D.Disk.files c.args.disk.now) c.args.log.now c.args.names.now c.args.after c.in_ok-page.page
-    c.requires.held c.requires.taken c.in_ok-page.ensures.past (rw c.as_slice-2.ensures at refused))
+pub returns-clause-taken : goal.returns-clause-taken
+returns-clause-taken g c =
+    let told = g.D.Disk.files c.args.disk.now in
+    let old = names_of c.args.names.now in
+    let new = names_of c.take_texts.new.names in
+    let takes : Takes c.as_slice-texts.result.now old new = rw c.if-not-branch.false at c.in_ok-take_texts.ensures in
+    let more = more_taken told c.args.log.now c.args.names.now c.take_texts.new.names c.args.rest.place c.in_ok-page.place c.args.rest.count 4096 c.in_ok-page.page
+    c.requires.taken c.in_ok-page.ensures.next (subst (λ (l : List (List ℕ)). Takes l old new) c.as_slice-texts.ensures takes) in
+    let count : c.args.rest.count - length c.in_ok-page.page ≡ c.saturating_sub.result = omega (arith, c.saturating_sub.ensures, ap (λ (l : List (List ℕ)). length l) c.as_slice-texts.ensures) in
+    subst (HoldsTaken told c.args.log.now c.take_texts.new.names c.in_ok-page.place) count more

@@ -4,4 +4,4 @@ use Rattle.weed.specs.Replay.{Takes}
 use Rattle.weed.proofs.replay.take_texts.Given as goal
 
 abbrev pub invariant-loop-text : goal.invariant-loop-text
-invariant-loop-text l = Takes l.fn.after (take l.text-index l.texts) l.last (names_of l.fn.names) (names_of l.names)
+invariant-loop-text l = Takes (take l.text-index l.texts) (names_of l.fn.names) (names_of l.names)

@@ -1,0 +1,21 @@
+use Rattle.std.proofs.Common.{◌≡◌, refl, sym, ap, subst, arith}
+use Rattle.meta_log.specs.declared.front.Front.{Front}
+use Rattle.weed.specs.Replay.{HoldsNames}
+use Rattle.weed.proofs.ReplayLemmas.{none_taken, all_taken}
+use Rattle.weed.proofs.replay.replay.Goals as goal
+
+pub loop-rest-init : goal.loop-rest-init
+loop-rest-init g c = record {
+  files = refl;
+  taken = none_taken (g.D.Disk.files c.args.disk.now) c.args.log.now c.new-names.result c.start.result c.front.result.count c.requires
+      c.new-names.ensures c.start.ensures (ap (λ (f : Front). f.count) c.front.ensures.front);
+  faults = omega arith;
+  sent = refl;
+  send_faults = refl;
+}
+
+pub returns-clause-names : goal.returns-clause-names
+returns-clause-names g c =
+    let none : c.loop-rest.rest.count ≡ 0 = omega (arith, c.loop-rest-test.false) in
+    subst (λ told. HoldsNames told c.args.log.now c.loop-rest.names) (sym c.loop-rest.invariant.files)
+    (all_taken (g.D.Disk.files c.args.disk.now) c.args.log.now c.loop-rest.names c.loop-rest.rest.place c.loop-rest.rest.count none c.loop-rest.invariant.taken)
