@@ -13,6 +13,7 @@ use Rattle.std.proofs.lemmas.Map.Keys.{sorted_head, sorted_tail}
 use Rattle.std.specs.Option.{option_copied_mut}
 use Rattle.std.specs.Map.{lookup, keys_of}
 use Rattle.std.specs.BTreeMap as tree
+use Rattle.weed_base.specs.DiskLaws.{insert-same}
 use Rattle.weed_base.specs.Files.{Files, content, IsThere, IsWithin, MayWrite, made, renamed}
 
 abbrev Tree : Type 0
@@ -88,13 +89,7 @@ content-there table name some =
 
 -- the content written back
 pub insert-content : (table : Files) (name : List ℕ) → IsThere name table → fin.insert table name (content table name) ≡ table
-insert-content table name some = same_files _ _ (λ other.
-    get-insert nat_list_cmp_total table name (content table name) other
-    ∙ elim (order other name) as (λ r. order other name ≡ r → cond (is_eq r) (Some (content table name)) (fin.get table other) ≡ fin.get table other) [
-      | Less ↦ λ _. refl
-      | Equal ↦ λ tied. sym (content-there table name some) ∙ get_tied nat_list_cmp_total table other name tied
-      | Greater ↦ λ _. refl
-    ] refl)
+insert-content table name some = insert-same table name (content table name) (content-there table name some)
 
 put-sorted : (e : List ℕ × List ℕ) (es : List (List ℕ × List ℕ)) → IsStrictlySortedBy order (keys_of (e ∷ es)) → put order e.0 e.1 es ≡ e ∷ es
 put-sorted e [] sorted = refl

@@ -1,21 +1,22 @@
--- The calls of a memory form, of which those with listed numbers fail.
-use Rattle.std.specs.Prelude.{ℕ, ◌-◌, ◌^◌, ◌==◌, ◌||◌, Bool, List, if◌then◌else◌}
+-- The calls of a memory form, of which those with listed numbers fail, and all from a number on.
+use Rattle.std.specs.Prelude.{ℕ, ◌-◌, ◌^◌, ◌==◌, ◌||◌, Bool, List, nat_le, if◌then◌else◌}
 use Rattle.std.specs.List.{list_any}
 use Rattle.weed_base.specs.Told.{raised}
 
--- How many calls were made, the numbers of those that fail, and how many failed.
+-- How many calls were made, the numbers of those that fail, the number from which on all fail, and how many failed.
 pub record CallState : Type 0 where
   pub made : ℕ
   pub failing : List ℕ
+  pub from : ℕ
   pub faults : ℕ
 
--- Before the first call.
+-- Before the first call. At the last number each call fails.
 abbrev pub uncalled : List ℕ → CallState
-uncalled failing = record { made = 0; failing = failing; faults = 0 }
+uncalled failing = record { made = 0; failing = failing; from = 2 ^ 64 - 1; faults = 0 }
 
--- The call to come fails: its number is listed, or the numbers are used up.
+-- The call to come fails: its number is listed, or is one of those from which on all fail.
 abbrev pub fails_next : CallState → Bool
-fails_next calls = list_any (λ number. number == calls.made) calls.failing || (calls.made == (2 ^ 64 - 1))
+fails_next calls = nat_le calls.from calls.made || list_any (λ number. number == calls.made) calls.failing
 
 -- After one fault more.
 abbrev pub with_fault : CallState → CallState

@@ -2,9 +2,13 @@ pub mod Told
 pub mod Moments
 pub mod FileName
 pub mod Files
+pub mod Images
+pub mod Sent
 pub mod Path
 pub mod Calls
+pub mod History
 pub mod MemForms
 pub mod PathFaults
 pub mod NamedBytes
 pub mod RealForms
+pub mod DiskLaws

@@ -1,10 +1,16 @@
 -- The outside in memory: what each form holds.
-use Rattle.std.specs.Prelude.{◌≡◌, ℕ, List, Result, IsTrue, IsErr, OnErr, refl}
+use Rattle.std.specs.Prelude.{◌≡◌, ◌<◌, ◌⊎◌, ◌-◌, ◌^◌, ℕ, List, [], ◌∷◌, ◌++◌, length, Result, MatchResult, IsTrue, IsErr, refl}
 use Rattle.std.specs.Coded.{Coded, code_by, coded×, coded_list, coded_ℕ}
 use Rattle.std.specs.FinMap.{code}
 use Rattle.weed_base.specs.Told.{raised}
-use Rattle.weed_base.specs.Calls.{CallState, fails_next}
+use Rattle.weed_base.specs.Calls.{CallState, fails_next, uncalled}
 use Rattle.weed_base.specs.Files.{Files}
+use Rattle.weed_base.specs.History.{reads, Image, ImageSince}
+use Rattle.weed_base.specs.Sent.{Piece}
+use Rattle.weed_base.specs.contracts.mem.change.Call as call
+use Rattle.weed_base.specs.declared.mem.change.Call.{Call}
+use Rattle.weed_base.specs.declared.mem.change.Change.{Change}
+use Rattle.weed_base.specs.declared.mem.change.Change.TheVariants.{Written, Torn}
 
 -- A source: the bytes left, the most that one read gives, and its calls.
 pub record SourceState : Type 0 where
@@ -18,47 +24,98 @@ pub record SinkState : Type 0 where
   pub most : ℕ
   pub calls : CallState
 
+-- A disk: its files at the start, the calls that changed or settled them, the newest first, its calls, and how many
+-- failed writes it lacked memory to keep.
+pub record DiskState : Type 0 where
+  pub start : Files
+  pub past : List Call
+  pub calls : CallState
+  pub untold : ℕ
+
 -- The code of calls: that of the fields.
 abbrev pub calls_code : Coded CallState
 calls_code =
-    code_by (ℕ × (List ℕ × ℕ)) (coded× coded_ℕ (coded× (coded_list coded_ℕ) coded_ℕ))
-    (λ calls. (calls.made, (calls.failing, calls.faults)))
-    (λ p. record { made = p.0; failing = p.1.0; faults = p.1.1 })
+    code_by (ℕ × (List ℕ × (ℕ × ℕ))) (coded× coded_ℕ (coded× (coded_list coded_ℕ) (coded× coded_ℕ coded_ℕ)))
+    (λ calls. (calls.made, (calls.failing, (calls.from, calls.faults))))
+    (λ p. record { made = p.0; failing = p.1.0; from = p.1.1.0; faults = p.1.1.1 })
     (λ _. refl)
-
--- The code of what a sink holds: that of its fields.
-abbrev pub sink_code : Coded SinkState
-sink_code =
-    code_by (List ℕ × (ℕ × CallState)) (coded× (coded_list coded_ℕ) (coded× coded_ℕ calls_code))
-    (λ sink. (sink.written, (sink.most, sink.calls)))
-    (λ p. record { written = p.0; most = p.1.0; calls = p.1.1 })
-    (λ _. refl)
-
--- A disk: its files, and its calls.
-pub record DiskState : Type 0 where
-  pub files : Files
-  pub calls : CallState
 
 -- The code of what a disk holds: that of its fields.
 abbrev pub disk_code : Coded DiskState
 disk_code =
-    code_by (Files × CallState) (coded× (code (coded_list coded_ℕ) (coded_list coded_ℕ)) calls_code)
-    (λ disk. (disk.files, disk.calls))
-    (λ p. record { files = p.0; calls = p.1 })
+    code_by (Files × (List Call × (CallState × ℕ))) (coded× (code (coded_list coded_ℕ) (coded_list coded_ℕ)) (coded× (coded_list call.the_row.coded) (coded× calls_code coded_ℕ)))
+    (λ disk. (disk.start, (disk.past, (disk.calls, disk.untold))))
+    (λ p. record { start = p.0; past = p.1.0; calls = p.1.1.0; untold = p.1.1.1 })
     (λ _. refl)
 
--- A call of a memory disk has its number. It fails where that is listed, and then reads as before.
+-- A disk of these files, all of them settled.
+abbrev pub disk_of : Files → List ℕ → DiskState
+disk_of files failing = record { start = files; past = []; calls = uncalled failing; untold = 0 }
+
+-- The files as they read now.
+abbrev pub present : DiskState → Files
+present disk = reads disk.start disk.past
+
+-- What a crash now may leave.
+abbrev pub images : DiskState → Files → Type 0
+images disk = Image disk.start disk.past
+
+-- What a crash at a moment from that tick on might have left.
+abbrev pub images_since : DiskState → ℕ → Files → Type 0
+images_since disk = ImageSince disk.start disk.past disk.calls.made
+
+-- A call of a memory disk has its number, and fails where that is listed.
 pub record IsDiskCall {T E : Type 0} (old new : DiskState) (result : Result T E) : Type 0 where
   pub counted : new.calls.made ≡ raised old.calls.made
   pub listed : new.calls.failing ≡ old.calls.failing
+  pub limit : new.calls.from ≡ old.calls.from
+  pub start : new.start ≡ old.start
   pub fails : IsTrue (fails_next old.calls) → IsErr result
-  pub unchanged : OnErr result (new.files ≡ old.files)
 
--- A host: its disk, and what was sent, as a sink has it.
+-- The calls with one more, which made a change.
+abbrev pub with_call : Change → DiskState → List Call
+with_call change disk = record { tick = disk.calls.made; change = change } ∷ disk.past
+
+-- A call made a change, or none where it failed.
+pub record Makes {T E : Type 0} (change : Change) (old new : DiskState) (result : Result T E) : Type 0 where
+  pub past : MatchResult result (λ _. new.past ≡ with_call change old) (λ _. new.past ≡ old.past)
+  pub untold : new.untold ≡ old.untold
+
+-- A failed write left its range unsettled. Where memory was lacking to keep that, it is counted as untold. At the
+-- last number no call is kept.
+abbrev pub LeavesTorn : Change → DiskState → DiskState → Type 0
+LeavesTorn torn old new =
+    ((new.past ≡ with_call torn old) × (new.untold ≡ old.untold))
+    ⊎ ((new.past ≡ old.past) × ((new.untold ≡ raised old.untold) ⊎ (old.calls.made ≡ 2 ^ 64 - 1)))
+
+-- The same of the calls as they are kept, the oldest first.
+abbrev pub KeepsTorn : Call → List Call → List Call → ℕ → ℕ → Type 0
+KeepsTorn torn old new untold_before untold =
+    ((new ≡ old ++ torn ∷ []) × (untold ≡ untold_before) × (torn.tick < 2 ^ 64 - 1))
+    ⊎ ((new ≡ old) × ((untold ≡ raised untold_before) ⊎ (torn.tick ≡ 2 ^ 64 - 1)))
+
+-- A call wrote, or left its range unsettled where it failed.
+abbrev pub WritesOrTears : {T E : Type 0} → List ℕ → ℕ → List ℕ → DiskState → DiskState → Result T E → Type 0
+WritesOrTears name at piece old new result =
+    MatchResult result
+    (λ _. (new.past ≡ with_call (Written name at piece) old) × (new.untold ≡ old.untold))
+    (λ _. LeavesTorn (Torn name at (length piece)) old new)
+
+-- A host: its disk, the pieces sent, the most that one send takes, and its sends.
 pub record HostState : Type 0 where
   pub disk : DiskState
-  pub sink : SinkState
+  pub pieces : List Piece
+  pub most : ℕ
+  pub sends : CallState
+
+-- The code of a piece: that of its fields.
+abbrev pub piece_code : Coded Piece
+piece_code = code_by (ℕ × List ℕ) (coded× coded_ℕ (coded_list coded_ℕ)) (λ piece. (piece.tick, piece.bytes)) (λ p. record { tick = p.0; bytes = p.1 }) (λ _. refl)
 
 -- The code of what a host holds: that of its fields.
 abbrev pub host_code : Coded HostState
-host_code = code_by (DiskState × SinkState) (coded× disk_code sink_code) (λ host. (host.disk, host.sink)) (λ p. record { disk = p.0; sink = p.1 }) (λ _. refl)
+host_code =
+    code_by (DiskState × (List Piece × (ℕ × CallState))) (coded× disk_code (coded× (coded_list piece_code) (coded× coded_ℕ calls_code)))
+    (λ host. (host.disk, (host.pieces, (host.most, host.sends))))
+    (λ p. record { disk = p.0; pieces = p.1.0; most = p.1.1.0; sends = p.1.1.1 })
+    (λ _. refl)

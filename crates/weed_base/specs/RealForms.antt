@@ -1,7 +1,12 @@
--- The outside itself, of which contracts see the counts of faults alone.
+-- The outside itself, of which contracts see counts alone.
 use Rattle.std.specs.Prelude.{ℕ}
 
--- How many calls of a host failed, and how many sends.
-pub record HostFaults : Type 0 where
-  pub calls : ℕ
-  pub sends : ℕ
+-- How many calls of a disk were made, and how many failed.
+pub record DiskCounts : Type 0 where
+  pub made : ℕ
+  pub faults : ℕ
+
+-- The counts of a host's disk, and how many sends failed.
+pub record HostCounts : Type 0 where
+  pub disk : DiskCounts
+  pub send_faults : ℕ

@@ -1,8 +1,10 @@
-ghost use Rattle.std.specs.Prelude.{◌≡◌, ◌≤◌, ◌<◌, ◌↔◌, ◌+◌, ◌^◌, ◌⊎◌, List, ℕ, Bool, IsTrue, false, Option, IfSome, IfOk, OnOk, IsErrOf, MatchResult, length, take, drop, min};
+ghost use Rattle.std.specs.Prelude.{◌≡◌, ◌≤◌, ◌<◌, ◌↔◌, ◌+◌, ◌^◌, ◌⊎◌, List, ℕ, Bool, IsTrue, false, Option, Some, IfSome, IfOk, OnOk, IsErrOf, MatchResult, length, take, drop, min};
 ghost use Rattle.std.specs.Option.{option_map};
 ghost use Rattle.std.specs.FinMap.{get, keys};
-ghost use Rattle.weed_base.specs.Told.{Writes, HasCause, HasWriteCause, IsCauseOf};
+ghost use Rattle.weed_base.specs.Told.{HasCause, HasWriteCause, IsCauseOf};
 ghost use Rattle.weed_base.specs.Files.{Files, IsWithin, IsThere, written, cut_to, made, removed, renamed, content, MayWrite, BothTold, Changes, ReadsAt, MayBeNamed};
+ghost use Rattle.weed_base.specs.Images.{NoMore, Only, Follows, Tears, Takes, where_there, Elapses, StandsStill};
+ghost use Rattle.weed_base.specs.Sent.{Piece, Sends};
 ghost use Rattle.weed_base.specs.declared.disk.NamesFault.TheVariants.{Memory};
 
 use crate::bytes::Word;
@@ -58,16 +60,31 @@ pub trait Disk {
     /// How many calls failed.
     ghost faults: { Self → ℕ };
 
-    /// The bytes sent, where told.
-    ghost sent: { Self → Option (List ℕ) };
+    /// The pieces sent, where told.
+    ghost sent: { Self → Option (List Piece) };
 
     /// How many sends failed.
     ghost send_faults: { Self → ℕ };
+
+    /// How many calls were made.
+    ghost tick: { Self → ℕ };
+
+    /// What a crash now may leave.
+    ghost images: { Self → Files → Type 0 };
+
+    /// What a crash at some moment from that tick on might have left.
+    ghost image_since: { Self → ℕ → Files → Type 0 };
+
+    /// The number of calls so far. It is no call itself. At 2^64 - 1 each call fails.
+    fn tick(&self) -> u64
+        ensures { result ≡ tick self.now };
 
     /// Turns to the directory at that place, which the real form makes where it isn't there. Memory forms
     /// stay as they are.
     fn attach(&mut self, place: &Word) -> Result<(), Failed>
         ensures files { files self.new ≡ files self.old }
+        ensures images { NoMore (images self.old) (images self.new) }
+        ensures time { Elapses (tick self.old) (tick self.new) (image_since self.old) (image_since self.new) (images self.new) }
         ensures cause { HasCause (faults self.old) (faults self.new) result }
         ensures sent { (sent self.new ≡ sent self.old) × (send_faults self.new ≡ send_faults self.old) };
 
@@ -75,6 +92,8 @@ pub trait Disk {
     fn names(&mut self, alloc: Global) -> Result<Items<FileName>, NamesFault>
         ensures names { IfOk result (λ names. IfSome (files self.old) (λ told. names ≡ keys told)) }
         ensures files { files self.new ≡ files self.old }
+        ensures images { NoMore (images self.old) (images self.new) }
+        ensures time { Elapses (tick self.old) (tick self.new) (image_since self.old) (image_since self.new) (images self.new) }
         ensures cause { IsCauseOf (faults self.old) (faults self.new) (IsErrOf result NamesFault.Failed) }
         ensures sent { (sent self.new ≡ sent self.old) × (send_faults self.new ≡ send_faults self.old) };
 
@@ -82,6 +101,8 @@ pub trait Disk {
     fn size(&mut self, name: &FileName) -> Result<Option<u64>, Failed>
         ensures size { IfOk result (λ size. IfSome (files self.old) (λ told. size ≡ option_map length (get told name.now))) }
         ensures files { files self.new ≡ files self.old }
+        ensures images { NoMore (images self.old) (images self.new) }
+        ensures time { Elapses (tick self.old) (tick self.new) (image_since self.old) (image_since self.new) (images self.new) }
         ensures cause { HasCause (faults self.old) (faults self.new) result }
         ensures sent { (sent self.new ≡ sent self.old) × (send_faults self.new ≡ send_faults self.old) };
 
@@ -91,6 +112,8 @@ pub trait Disk {
         ensures bound { IfOk result (λ count. count ≤ length room.new) }
         ensures bytes { IfOk result (λ count. IfSome (files self.old) (λ told. ReadsAt (content told name.now) at count room.new)) }
         ensures files { files self.new ≡ files self.old }
+        ensures images { NoMore (images self.old) (images self.new) }
+        ensures time { Elapses (tick self.old) (tick self.new) (image_since self.old) (image_since self.new) (images self.new) }
         ensures cause { HasCause (faults self.old) (faults self.new) result }
         ensures sent { (sent self.new ≡ sent self.old) × (send_faults self.new ≡ send_faults self.old) };
 
@@ -102,6 +125,8 @@ pub trait Disk {
             (λ _. files self.new ≡ option_map (written name.now at piece.now) (files self.old))
             (λ _. BothTold (MayWrite name.now at piece.now) (files self.old) (files self.new)) }
         ensures bound { OnOk result (at + length piece.now < 2 ^ 63) }
+        ensures images { Follows (Tears name.now at (length piece.now)) (images self.old) (images self.new) }
+        ensures time { Elapses (tick self.old) (tick self.new) (image_since self.old) (image_since self.new) (images self.new) }
         ensures cause { HasCause (faults self.old) (faults self.new) result }
         ensures sent { (sent self.new ≡ sent self.old) × (send_faults self.new ≡ send_faults self.old) };
 
@@ -109,6 +134,8 @@ pub trait Disk {
     fn cut(&mut self, name: &FileName, to: u64) -> Result<(), Failed>
         requires { IfSome (files self.old) (IsWithin name.now to) }
         ensures files { Changes (cut_to name.now to) (files self.old) (files self.new) result }
+        ensures images { Follows (Takes (where_there name.now (cut_to name.now to))) (images self.old) (images self.new) }
+        ensures time { Elapses (tick self.old) (tick self.new) (image_since self.old) (image_since self.new) (images self.new) }
         ensures cause { HasCause (faults self.old) (faults self.new) result }
         ensures sent { (sent self.new ≡ sent self.old) × (send_faults self.new ≡ send_faults self.old) };
 
@@ -116,12 +143,16 @@ pub trait Disk {
     fn make(&mut self, name: &FileName) -> Result<(), Failed>
         requires { MayBeNamed MARKS_ONLY name.now }
         ensures files { Changes (made name.now) (files self.old) (files self.new) result }
+        ensures images { Follows (Takes (made name.now)) (images self.old) (images self.new) }
+        ensures time { Elapses (tick self.old) (tick self.new) (image_since self.old) (image_since self.new) (images self.new) }
         ensures cause { HasCause (faults self.old) (faults self.new) result }
         ensures sent { (sent self.new ≡ sent self.old) × (send_faults self.new ≡ send_faults self.old) };
 
     /// Removes the file, where it is there. After a failure it reads as before or as after.
     fn remove(&mut self, name: &FileName) -> Result<(), Failed>
         ensures files { Changes (removed name.now) (files self.old) (files self.new) result }
+        ensures images { Follows (Takes (removed name.now)) (images self.old) (images self.new) }
+        ensures time { Elapses (tick self.old) (tick self.new) (image_since self.old) (image_since self.new) (images self.new) }
         ensures cause { HasCause (faults self.old) (faults self.new) result }
         ensures sent { (sent self.new ≡ sent self.old) × (send_faults self.new ≡ send_faults self.old) };
 
@@ -131,14 +162,28 @@ pub trait Disk {
         requires there { IfSome (files self.old) (IsThere from.now) }
         requires named { MayBeNamed MARKS_ONLY to.now }
         ensures files { Changes (renamed from.now to.now) (files self.old) (files self.new) result }
+        ensures images { Follows (Takes (where_there from.now (renamed from.now to.now))) (images self.old) (images self.new) }
+        ensures time { Elapses (tick self.old) (tick self.new) (image_since self.old) (image_since self.new) (images self.new) }
         ensures cause { HasCause (faults self.old) (faults self.new) result }
         ensures sent { (sent self.new ≡ sent self.old) × (send_faults self.new ≡ send_faults self.old) };
 
     /// Settles all files and names.
     fn sync(&mut self) -> Result<(), Failed>
         ensures files { files self.new ≡ files self.old }
+        ensures images { NoMore (images self.old) (images self.new) }
+        ensures settled { OnOk result (Only (files self.old) (images self.new)) }
+        ensures time { Elapses (tick self.old) (tick self.new) (image_since self.old) (image_since self.new) (images self.new) }
         ensures cause { HasCause (faults self.old) (faults self.new) result }
         ensures sent { (sent self.new ≡ sent self.old) × (send_faults self.new ≡ send_faults self.old) };
+
+    /// This moment is one of those since an earlier one.
+    ghost counts_now: { (disk : Self) (moment : ℕ) (image : Files) → moment ≤ tick disk → images disk image → image_since disk moment image };
+
+    /// Since this moment there is no other.
+    ghost only_now: { (disk : Self) (image : Files) → image_since disk (tick disk) image → images disk image };
+
+    /// What reads give may be left.
+    ghost reads_now: { (disk : Self) (read : Files) → files disk ≡ Some read → images disk read };
 }
 
 /// A disk with a way out: what a command answers goes through it, so that a disk can tell what was on it
@@ -146,9 +191,10 @@ pub trait Disk {
 pub trait Host: Disk {
     /// Sends first bytes of the piece, and answers how many, as a sink does.
     fn send(&mut self, piece: &[u8]) -> Result<usize, Failed>
-        ensures bytes { Writes (Self.sent self.old) (Self.sent self.new) result piece.now }
+        ensures pieces { Sends (Self.tick self.old) (Self.sent self.old) (Self.sent self.new) result piece.now }
         ensures cause { HasWriteCause (Self.send_faults self.old) (Self.send_faults self.new) result piece.now }
-        ensures disk { (Self.files self.new ≡ Self.files self.old) × (Self.faults self.new ≡ Self.faults self.old) };
+        ensures disk { (Self.files self.new ≡ Self.files self.old) × (Self.faults self.new ≡ Self.faults self.old) }
+        ensures still { StandsStill (Self.tick self.old) (Self.tick self.new) (Self.image_since self.old) (Self.image_since self.new) (Self.images self.old) (Self.images self.new) };
 
     /// A host has files of any name.
     ghost whole: { Self.MARKS_ONLY ≡ false };

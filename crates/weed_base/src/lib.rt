@@ -24,7 +24,7 @@ pub use clock::Clock;
 pub use disk::{Disk, Host, NamesFault};
 pub use file_name::FileName;
 pub use items::Items;
-pub use mem::{MemClock, MemDisk, MemHost, MemSink, MemSource, NamedBytes};
+pub use mem::{MemClock, MemDisk, MemHost, MemSink, MemSource, NamedBytes, Pick, SentPiece};
 pub use path::Path;
 pub use path_fault::PathFault;
 pub use real::{

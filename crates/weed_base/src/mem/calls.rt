@@ -1,4 +1,4 @@
-ghost use Rattle.std.specs.Prelude.{◌≡◌, ◌≤◌, ◌↔◌, IsTrue, IsErr};
+ghost use Rattle.std.specs.Prelude.{◌≡◌, ◌≤◌, ◌<◌, ◌+◌, ◌^◌, ◌↔◌, IsTrue, IsErr, OnOk};
 ghost use Rattle.weed_base.specs.Told.{HasCause};
 ghost use Rattle.weed_base.specs.Calls.{uncalled, fails_next, with_fault, called};
 
@@ -6,11 +6,13 @@ use crate::faults::Faults;
 use crate::source::Failed;
 use std::marker::Model;
 
-/// The calls of a memory form: how many were made, which of them fail, and how many failed.
+/// The calls of a memory form: how many were made, which of them fail, the number from which on all fail, and
+/// how many failed.
 #[derive(Debug, Drop)]
 pub(crate) struct Calls {
     made: u64,
     failing: Vec<u64>,
+    from: u64,
     faults: Faults,
 }
 
@@ -19,7 +21,7 @@ impl Model for Calls {
 
     ghost Value = { CallState };
 
-    ghost view = { λ calls. record { made = calls.made; failing = calls.failing.items; faults = calls.faults } };
+    ghost view = { λ calls. record { made = calls.made; failing = calls.failing.items; from = calls.from; faults = calls.faults } };
 }
 
 impl Calls {
@@ -30,8 +32,16 @@ impl Calls {
         Calls {
             made: 0,
             failing,
+            from: u64::MAX,
             faults: Faults::new(),
         }
+    }
+
+    /// How many were made.
+    pub(crate) fn made(&self) -> u64
+        ensures { result ≡ self.now.made }
+    {
+        self.made
     }
 
     pub(crate) fn faults(&self) -> u64
@@ -41,15 +51,25 @@ impl Calls {
     }
 
     fn fails_next(&self) -> bool
-        ensures { result ≡ fails_next self.now }
+        ensures value { result ≡ fails_next self.now }
+        ensures limit { self.now.from < 2 ^ 64 }
     {
-        self.failing.contains(&self.made) || self.made == u64::MAX
+        self.from <= self.made || self.failing.contains(&self.made)
+    }
+
+    /// Makes all calls from this number on fail.
+    pub(crate) fn fail_from(&mut self, number: u64)
+        ensures { self.new ≡ record self.old { from = number } }
+    {
+        self.from = number;
     }
 
     /// Begins a call, and counts the fault where it fails.
     pub(crate) fn begin(&mut self) -> Result<(), Failed>
         ensures fails { IsErr result ↔ IsTrue (fails_next self.old) }
         ensures after { self.new ≡ called self.old }
+        ensures later { self.old.made ≤ self.new.made }
+        ensures next { OnOk result (self.new.made ≡ self.old.made + 1) }
         ensures cause { HasCause self.old.faults self.new.faults result }
     {
         let fails = self.fails_next();

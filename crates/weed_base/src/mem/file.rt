@@ -47,8 +47,18 @@ impl MemFile {
         self.bytes.as_slice()
     }
 
-    /// Writes over what is there, and past the end. Nothing is written where memory is lacking.
+    /// Writes over what is there, and past the end; at the end, where it is ahead of the place. Nothing is
+    /// written where memory is lacking.
     pub(crate) fn write(&mut self, at: usize, piece: &[u8]) -> Result<(), AllocError>
+        ensures ok { OnOk result (self.new ≡ spliced self.old at piece.now) }
+        ensures err { OnErr result (self.new ≡ self.old) }
+    {
+        let end = self.bytes.len();
+        self.write_within(at.min(end), piece)
+    }
+
+    /// The same at a place that is within the file.
+    fn write_within(&mut self, at: usize, piece: &[u8]) -> Result<(), AllocError>
         requires { at ≤ length self.old }
         ensures ok { OnOk result (self.new ≡ spliced self.old at piece.now) }
         ensures err { OnErr result (self.new ≡ self.old) }

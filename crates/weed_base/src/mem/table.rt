@@ -1,10 +1,11 @@
-ghost use Rattle.std.specs.Prelude.{◌≡◌, ◌≤◌, OnOk, OnErr, IfOk};
+ghost use Rattle.std.specs.Prelude.{◌≡◌, ◌≤◌, OnOk, OnErr, IfOk, replicate};
 ghost use Rattle.std.specs.Option.{option_copied};
-ghost use Rattle.std.specs.FinMap.{get, empty, insert, remove, keys};
+ghost use Rattle.std.specs.FinMap.{get, empty, insert, remove, keys, from_entries};
 ghost use Rattle.std.specs.BTreeMap as tree;
 ghost use Rattle.std.specs.Ordering.{nat_cmp};
 ghost use Rattle.std.specs.Cmp.Lexicographic.{slice_cmp};
-ghost use Rattle.weed_base.specs.Files.{IsWithin, IsThere, written, cut_to, made, removed, renamed};
+ghost use Rattle.weed_base.specs.Files.{IsThere, written, cut_to, made, removed, renamed};
+ghost use Rattle.weed_base.specs.Images.{where_there};
 ghost use Rattle.weed_base.specs.NamedBytes.{files_from};
 
 use crate::bytes::Bytes;
@@ -51,16 +52,35 @@ impl FileTable {
         }
     }
 
-    /// The table of these files. Of two with one name the first counts.
-    pub(crate) fn of(alloc: Global, mut files: Vec<NamedBytes>) -> Result<FileTable, AllocError>
-        ensures { IfOk result (λ table. table ≡ files_from files.items) }
+    /// Where it takes its memory.
+    pub(crate) fn alloc(&self) -> Global {
+        self.alloc
+    }
+
+    /// A table of these files. Of two with one name the first counts.
+    pub(crate) fn of(alloc: Global, files: &[NamedBytes]) -> Result<FileTable, AllocError>
+        ensures { IfOk result (λ table. table ≡ files_from files.now) }
     {
         let mut table = FileTable::new(alloc);
-        while let Some(file) = files.pop() {
-            let NamedBytes { name, bytes } = file;
-            table.insert(&name, MemFile::of(bytes))?;
+        let mut left = files.len();
+        while left > 0 {
+            left -= 1;
+            table.insert_copy(&files[left])?;
         }
         Ok(table)
+    }
+
+    /// The files, in the order of their names.
+    pub(crate) fn entries(&self) -> Result<Vec<NamedBytes>, AllocError>
+        ensures { IfOk result (λ files. files_from files.items ≡ self.now) }
+    {
+        copied_entries(self.alloc, &self.files)
+    }
+
+    fn insert_copy(&mut self, file: &NamedBytes) -> Result<(), AllocError>
+        ensures { OnOk result (self.new ≡ insert self.old file.now.name file.now.bytes) }
+    {
+        self.insert(&file.name, MemFile::of(file.bytes.copy(self.alloc)?))
     }
 
     pub(crate) fn get(&self, name: &FileName) -> Option<&MemFile>
@@ -124,7 +144,7 @@ impl FileTable {
         at: usize,
         piece: &[u8],
     ) -> Result<(), AllocError>
-        requires { IsWithin name.now at self.old }
+        requires { IsThere name.now self.old }
         ensures ok { OnOk result (self.new ≡ written name.now at piece.now self.old) }
         ensures err { OnErr result (self.new ≡ self.old) }
     {
@@ -139,12 +159,80 @@ impl FileTable {
         self.files.get_mut(name).unwrap().cut(to);
     }
 
+    /// Writes where the file is there. Nothing is written where memory is lacking.
+    pub(crate) fn write_there(
+        &mut self,
+        name: &FileName,
+        at: usize,
+        piece: &[u8],
+    ) -> Result<(), AllocError>
+        ensures ok { OnOk result (self.new ≡ where_there name.now (written name.now at piece.now) self.old) }
+        ensures err { OnErr result (self.new ≡ self.old) }
+    {
+        if self.get(name).is_none() {
+            return Ok(());
+        }
+        self.write(name, at, piece)
+    }
+
+    /// Writes so many of one byte where the file is there.
+    pub(crate) fn write_byte(
+        &mut self,
+        name: &FileName,
+        at: usize,
+        count: usize,
+        byte: u8,
+    ) -> Result<(), AllocError>
+        ensures { OnOk result (self.new ≡ where_there name.now (written name.now at (replicate count byte)) self.old) }
+    {
+        let piece = vec![in self.alloc; byte; count]?;
+        self.write_there(name, at, piece.as_slice())
+    }
+
+    /// Cuts the file where it is there.
+    pub(crate) fn cut_there(&mut self, name: &FileName, to: usize)
+        ensures { self.new ≡ where_there name.now (cut_to name.now to) self.old }
+    {
+        if self.get(name).is_none() {
+            return;
+        }
+        self.cut(name, to);
+    }
+
+    /// Renames the file where it is there. Nothing changes where memory is lacking.
+    pub(crate) fn rename_there(&mut self, from: &FileName, to: &FileName) -> Result<(), AllocError>
+        ensures ok { OnOk result (self.new ≡ where_there from.now (renamed from.now to.now) self.old) }
+        ensures err { OnErr result (self.new ≡ self.old) }
+    {
+        if self.get(from).is_none() {
+            return Ok(());
+        }
+        self.rename(from, to)
+    }
+
     /// All names, in byte order.
     pub(crate) fn names(&self, alloc: Global) -> Result<Vec<FileName>, AllocError>
         ensures { IfOk result (λ names. names.items ≡ keys self.now) }
     {
         copied_names(alloc, &self.files)
     }
+}
+
+fn copied_entries(
+    alloc: Global,
+    files: &BTreeMap<FileName, MemFile>,
+) -> Result<Vec<NamedBytes>, AllocError>
+    ensures { IfOk result (λ copied. files_from copied.items ≡ from_entries files.now.entries) }
+{
+    let mut copied = Vec::with_capacity(alloc, files.len())?;
+    for (name, file) in files.iter() {
+        let bytes = Bytes::new(alloc, file.as_slice())?;
+        copied.push(NamedBytes {
+            name: name.copy(),
+            bytes,
+        })?;
+    }
+    Ok(copied)
 }
 
 fn copied_names(

@@ -44,7 +44,7 @@ fn a_clock_repeats_its_last_moment(rt: HostRuntime) -> Result<(), Fail> {
 }
 
 /// A host with one file `b` of the bytes `old`.
-fn host(alloc: Global, failing: &[u64]) -> Result<MemHost, AllocError> {
+pub(super) fn host(alloc: Global, failing: &[u64]) -> Result<MemHost, AllocError> {
     let mut files = Vec::new(alloc);
     if let Some(name) = FileName::new(b"b") {
         let bytes = Bytes::new(alloc, b"old")?;
@@ -94,8 +94,12 @@ fn a_failed_call_leaves_the_files(rt: HostRuntime) -> Result<(), Fail> {
 fn a_host_keeps_what_it_sent(rt: HostRuntime) -> Result<(), Fail> {
     let mut host = host(rt.alloc(), &[])?.with_most(2);
     assert_eq!(rt; send(&mut host, b"abc"), Ok(2));
+    host.sync()?;
     assert_eq!(rt; send(&mut host, b"c"), Ok(1));
     assert_eq!(rt; host.sent(), b"abc".as_slice());
     assert_eq!(rt; host.send_faults(), 0);
+    let last = host.pieces().last();
+    assert_eq!(rt; last.map(|piece| piece.as_slice()), Some(b"c".as_slice()));
+    assert_eq!(rt; last.map(|piece| piece.tick()), Some(1));
     Ok(())
 }

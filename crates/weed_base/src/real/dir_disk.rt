@@ -1,5 +1,6 @@
 ghost use Rattle.std.specs.Prelude.{◌≡◌, ◌≤◌, None, false, IfOk, length};
-ghost use Rattle.weed_base.specs.Told.{HasCause};
+ghost use Rattle.std.proofs.lemmas.Option.{none-some};
+ghost use Rattle.weed_base.specs.Told.{raised, HasCause};
 
 use crate::bytes::Word;
 use crate::disk::{Disk, NamesFault, ends_in_file};
@@ -62,47 +63,65 @@ impl<R: Files<File = File> + AllocGlobal + Clone + Drop> State<R> {
     }
 }
 
-/// A disk over a directory of the system. Contracts see its count of faults.
+/// A disk over a directory of the system. Contracts see how many calls were made, and how many failed.
 ///
 /// Each call fails before it is attached, and after a sync or an attach that failed.
 #[derive(Drop)]
 pub struct DirDisk<R> {
     rt: R,
     state: State<R>,
+    made: u64,
     faults: Faults,
 }
 
 impl<R> Model for DirDisk<R> {
-    ghost use Rattle.std.specs.Prelude.{ℕ};
+    ghost use Rattle.weed_base.specs.RealForms.{DiskCounts};
 
-    ghost Value = { ℕ };
+    ghost Value = { DiskCounts };
 
-    ghost view = { λ disk. disk.faults };
+    ghost view = { λ disk. record { made = disk.made; faults = disk.faults } };
 }
 
 impl<R: Files<File = File> + AllocGlobal + Clone + Drop> DirDisk<R> {
     pub fn new(rt: R) -> DirDisk<R>
-        ensures { result ≡ 0 }
+        ensures { result ≡ record { made = 0; faults = 0 } }
     {
         DirDisk {
             rt,
             state: State::Detached,
+            made: 0,
             faults: Faults::new(),
         }
     }
 
     /// How many calls failed.
     pub fn faults(&self) -> u64
-        ensures { result ≡ self.now }
+        ensures { result ≡ self.now.faults }
     {
         self.faults.count()
+    }
+
+    /// Begins a call, and counts the fault where the numbers are used up.
+    fn begin(&mut self) -> Result<(), Failed>
+        ensures made { self.new.made ≡ raised self.old.made }
+        ensures later { self.old.made ≤ self.new.made }
+        ensures cause { HasCause self.old.faults self.new.faults result }
+    {
+        if self.made == u64::MAX {
+            return Err(self.faults.raise());
+        }
+        self.made += 1;
+        Ok(())
     }
 
     /// Makes a call of the attached directory, and counts its fault.
     fn call<T, F: FnOnce(&mut Folder<R>) -> io::Result<T>>(&mut self, call: F) -> Result<T, Failed>
         requires { F.IsAlwaysCallable call }
-        ensures cause { HasCause self.old self.new result }
+        ensures made { self.new.made ≡ raised self.old.made }
+        ensures later { self.old.made ≤ self.new.made }
+        ensures cause { HasCause self.old.faults self.new.faults result }
     {
+        self.begin()?;
         let answer = self.state.attached().and_then(call);
         self.faults.note(answer)
     }
@@ -115,18 +134,38 @@ impl<R: Files<File = File> + AllocGlobal + Clone + Drop> Disk for DirDisk<R> {
 
     ghost files = { λ _. None };
 
-    ghost faults = { λ disk. disk };
+    ghost faults = { λ disk. disk.faults };
 
     ghost sent = { λ _. None };
 
     ghost send_faults = { λ _. 0 };
 
+    ghost tick = { λ disk. disk.made };
+
+    ghost images = { λ _ _. ⊥ };
+
+    ghost image_since = { λ _ _ _. ⊥ };
+
+    ghost counts_now = { λ disk moment image le now. now };
+
+    ghost only_now = { λ disk image now. now };
+
+    ghost reads_now = { λ disk read told. absurd (none-some read told) };
+
+    fn tick(&self) -> u64 {
+        self.made
+    }
+
     fn attach(&mut self, place: &Word) -> Result<(), Failed> {
+        self.begin()?;
         let answer = self.state.attach(&self.rt, place.as_slice());
         self.faults.note(answer)
     }
 
     fn names(&mut self, alloc: Global) -> Result<Items<FileName>, NamesFault> {
+        if self.begin().is_err() {
+            return Err(NamesFault::Failed);
+        }
         let answer = self.state.attached().and_then(|folder| folder.names(alloc));
         match answer {
             Ok(names) => Ok(Items::of(names)),
@@ -143,6 +182,7 @@ impl<R: Files<File = File> + AllocGlobal + Clone + Drop> Disk for DirDisk<R> {
     }
 
     fn read_at(&mut self, name: &FileName, at: u64, room: &mut [u8]) -> Result<usize, Failed> {
+        self.begin()?;
         let answer = match self.state.attached() {
             Ok(folder) => folder.read_at(name, at, room),
             Err(error) => Err(error),
@@ -152,6 +192,7 @@ impl<R: Files<File = File> + AllocGlobal + Clone + Drop> Disk for DirDisk<R> {
 
     fn write_at(&mut self, name: &FileName, at: u64, piece: &[u8]) -> Result<(), Failed> {
         if !ends_in_file(at, piece.len()) {
+            self.begin()?;
             return Err(self.faults.raise());
         }
         self.call(|folder| folder.write_at(name, at, piece))
@@ -174,6 +215,7 @@ impl<R: Files<File = File> + AllocGlobal + Clone + Drop> Disk for DirDisk<R> {
     }
 
     fn sync(&mut self) -> Result<(), Failed> {
+        self.begin()?;
         let answer = self.state.sync();
         self.faults.note(answer)
     }

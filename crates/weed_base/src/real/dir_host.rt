@@ -1,4 +1,5 @@
 ghost use Rattle.std.specs.Prelude.{◌≡◌, None, false, refl};
+ghost use Rattle.std.proofs.lemmas.Option.{none-some};
 
 use crate::bytes::Word;
 use crate::disk::{Disk, Host, NamesFault};
@@ -23,16 +24,16 @@ pub struct DirHost<R, W> {
 }
 
 impl<R, W> Model for DirHost<R, W> {
-    ghost use Rattle.weed_base.specs.RealForms.{HostFaults};
+    ghost use Rattle.weed_base.specs.RealForms.{HostCounts};
 
-    ghost Value = { HostFaults };
+    ghost Value = { HostCounts };
 
-    ghost view = { λ host. record { calls = host.disk; sends = host.output } };
+    ghost view = { λ host. record { disk = host.disk; send_faults = host.output } };
 }
 
 impl<R: Files<File = File> + AllocGlobal + Clone + Drop, W: Write> DirHost<R, W> {
     pub fn new(rt: R, output: W) -> DirHost<R, W>
-        ensures { result ≡ record { calls = 0; sends = 0 } }
+        ensures { result ≡ record { disk = record { made = 0; faults = 0 }; send_faults = 0 } }
     {
         DirHost {
             disk: DirDisk::new(rt),
@@ -42,14 +43,14 @@ impl<R: Files<File = File> + AllocGlobal + Clone + Drop, W: Write> DirHost<R, W>
 
     /// How many calls failed.
     pub fn faults(&self) -> u64
-        ensures { result ≡ self.now.calls }
+        ensures { result ≡ self.now.disk.faults }
     {
         self.disk.faults()
     }
 
     /// How many sends failed.
     pub fn send_faults(&self) -> u64
-        ensures { result ≡ self.now.sends }
+        ensures { result ≡ self.now.send_faults }
     {
         self.output.faults()
     }
@@ -62,11 +63,27 @@ impl<R: Files<File = File> + AllocGlobal + Clone + Drop, W: Write> Disk for DirH
 
     ghost files = { λ _. None };
 
-    ghost faults = { λ host. host.calls };
+    ghost faults = { λ host. host.disk.faults };
 
     ghost sent = { λ _. None };
 
-    ghost send_faults = { λ host. host.sends };
+    ghost send_faults = { λ host. host.send_faults };
+
+    ghost tick = { λ host. host.disk.made };
+
+    ghost images = { λ _ _. ⊥ };
+
+    ghost image_since = { λ _ _ _. ⊥ };
+
+    ghost counts_now = { λ disk moment image le now. now };
+
+    ghost only_now = { λ disk image now. now };
+
+    ghost reads_now = { λ disk read told. absurd (none-some read told) };
+
+    fn tick(&self) -> u64 {
+        self.disk.tick()
+    }
 
     fn attach(&mut self, place: &Word) -> Result<(), Failed> {
         self.disk.attach(place)

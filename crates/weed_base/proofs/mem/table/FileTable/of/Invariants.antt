@@ -1,11 +1,9 @@
-use Rattle.std.proofs.Common.{◌≡◌, ◌++◌, List, vec_len}
+use Rattle.std.proofs.Common.{◌≡◌, ◌≤◌, drop, length}
 use Rattle.weed_base.specs.NamedBytes.{files_from}
-use Rattle.weed_base.specs.declared.mem.table.NamedBytes.{NamedBytes}
 use Rattle.weed_base.proofs.mem.table.FileTable.of.Given as goal
 
-abbrev pub invariant-loop-file : goal.invariant-loop-file
-invariant-loop-file l =
-    (put : List NamedBytes) × (l.fn.files.items ≡ l.files.items ++ put) × (l.table ≡ files_from put)
+abbrev pub invariant-loop-left : goal.invariant-loop-left
+invariant-loop-left l = (l.left ≤ length l.files) × (l.table ≡ files_from (drop l.left l.files))
 
-abbrev pub decreases-loop-file : goal.decreases-loop-file
-decreases-loop-file l = vec_len l.files
+abbrev pub decreases-loop-left : goal.decreases-loop-left
+decreases-loop-left l = l.left
