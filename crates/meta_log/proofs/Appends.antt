@@ -27,7 +27,7 @@ segment_of_staged bytes payloads text staged = record {
   short = staged.short;
 }
 
-length_held : (files : Files) (log : GateLog) (payloads : List (List ℕ)) → IsHeld files log payloads → log.gate + 1 ≤ length (content files (segment_name log.stem 1))
+pub length_held : (files : Files) (log : GateLog) (payloads : List (List ℕ)) → IsHeld files log payloads → log.gate + 1 ≤ length (content files (segment_name log.stem 1))
 length_held files log payloads held =
     let segment = held.segment.segment in
     omega (arith, ap length segment.spelled, length-append (items payloads) (segment.gate ∷ segment.rest), held.gate)
@@ -51,7 +51,7 @@ module _ (log : GateLog) (payloads : List (List ℕ)) (text : List ℕ) where
         staged = subst (λ (l : List ℕ). IsStaged l payloads text) (sym (content-insert_same files name bytes)) is_staged;
       }
 
-  stays : (old new : Files) (count : List ℕ) → IsHeld old log payloads → MayWrite name (log.gate + 1) count old new → IsLogText log.stem new payloads
+  pub stays : (old new : Files) (count : List ℕ) → IsHeld old log payloads → MayWrite name (log.gate + 1) count old new → IsLogText log.stem new payloads
   stays old new piece held may =
       let segment = stage_torn payloads log.gate held.gate (content old name) may.0 (length piece) held.segment.segment may.1 in
       subst (λ (f : Files). IsLogText log.stem f payloads) (sym may.2)
@@ -68,7 +68,7 @@ module _ (log : GateLog) (payloads : List (List ℕ)) (text : List ℕ) where
           gate = omega (arith, gate_is, prepared.held.gate, length-items-push payloads text);
         }
 
-    either_way : (old new : Files) → IsReady old log payloads text → MayWrite name log.gate (1 ∷ []) old new → IsLogText log.stem new payloads ⊎ IsLogText log.stem new (payloads ++ text ∷ [])
+    pub either_way : (old new : Files) → IsReady old log payloads text → MayWrite name log.gate (1 ∷ []) old new → IsLogText log.stem new payloads ⊎ IsLogText log.stem new (payloads ++ text ∷ [])
     either_way old new prepared may =
         let outcome = open_torn payloads log.gate prepared.held.gate (content old name) may.0 text prepared.staged fits may.1 in
         let P : Files → Type 0 = λ f. IsLogText log.stem f payloads ⊎ IsLogText log.stem f (payloads ++ text ∷ []) in

@@ -1,14 +1,14 @@
 -- What is damaged holds no list, and one file and place are to blame.
-use Rattle.std.proofs.Common.{◌≡◌, ◌≢◌, ◌⊎◌, inl, inr, ℕ, ◌+◌, ◌≤◌, ◌<◌, List, [], ◌∷◌, ◌++◌, length, take, refl, sym, ◌∙◌, ap, subst, arith, append_assoc, length-append}
+use Rattle.std.proofs.Common.{◌≡◌, ◌≢◌, ◌⊎◌, inl, inr, ℕ, ◌+◌, List, [], ◌∷◌, ◌++◌, length, refl, sym, ◌∙◌, ap, subst, arith, append_assoc, length-append}
 use Rattle.std.specs.Prelude.{All}
 use Rattle.std.proofs.lemmas.List.{take_at, append-nil, get_or-append-add}
 use Rattle.std.proofs.lemmas.List.Elements.{All-head, All-tail, All-take}
 use Rattle.weed_base.specs.Files.{Files, content}
 use Rattle.name_core.specs.declared.change.Record.{Record}
 use Rattle.name_core.specs.Log.{TimesRise}
-use Rattle.meta_log.specs.Segment.{IsShort, framed, item, items, IsSegment, IsCut, EndsBadly, IsBroken}
-use Rattle.meta_log.specs.LogText.{segment_name, Counts, NoneFrom, SomeFrom, IsAllowed, Suits, HasSegment, HasText, HasDamage, IsLogText, IsDamage}
-use Rattle.meta_log.specs.Records.{ReadsAs, ReadAs, AreRecords}
+use Rattle.meta_log.specs.Segment.{IsShort, item, items, IsSegment, IsCut, EndsBadly, IsBroken}
+use Rattle.meta_log.specs.LogText.{segment_name, IsAllowed, Suits, HasText, HasDamage, IsLogText, IsDamage}
+use Rattle.meta_log.specs.Records.{ReadAs, AreRecords}
 use Rattle.meta_log.specs.Kept.{IsRecordLog, IsRecordDamage}
 use Rattle.meta_log.specs.declared.stem.Stem.{Stem}
 use Rattle.meta_log.specs.declared.stem.Stem.TheVariants.{Log}

@@ -26,7 +26,7 @@ verdict P true before payload tells passed = All-push P before payload passed (t
 verdict P false before payload tells passed = λ all. let granted = tells.1 (All-last P before payload all) in absurd (cc)
 
 module _ (Allowed : List (List ℕ) → Type 0) (stem : Stem) (begins : Allowed []) where
-  fresh_text : (files : Files) → IsFresh stem files → HasText Allowed stem files []
+  pub fresh_text : (files : Files) → IsFresh stem files → HasText Allowed stem files []
   fresh_text files fresh = inr (record {
     counts = fresh.counts;
     alone = fresh.alone;
@@ -34,11 +34,11 @@ module _ (Allowed : List (List ℕ) → Type 0) (stem : Stem) (begins : Allowed 
     allowed = begins;
   })
 
-  empty_text : (files : Files) → IsFreshOrEmpty stem files → HasText Allowed stem files []
+  pub empty_text : (files : Files) → IsFreshOrEmpty stem files → HasText Allowed stem files []
   empty_text files (inl none) = inl (none, refl)
   empty_text files (inr fresh) = fresh_text files fresh
 
-  only_empty : (files : Files) (payloads : List (List ℕ)) → NoneFrom stem 1 files → HasText Allowed stem files payloads → payloads ≡ []
+  pub only_empty : (files : Files) (payloads : List (List ℕ)) → NoneFrom stem 1 files → HasText Allowed stem files payloads → payloads ≡ []
   only_empty files payloads none (inl text) = text.1
   only_empty files payloads none (inr held) = absurd (none 1 (omega arith) (omega arith) held.counts)
 

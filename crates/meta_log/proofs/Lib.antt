@@ -22,3 +22,6 @@ pub mod Skipped
 pub mod Batches
 pub mod Damage
 pub mod RecordPlaces
+pub mod Crashes
+pub mod RecordCrashes
+pub mod OpenCrashes

@@ -103,7 +103,7 @@ none_refused front before text found is tells has =
 
 -- The list grows by a record.
 module _ (records : List Record) (known : Record) (text : List ℕ) (reads : ReadsAs text known) (past : last_time records < known.time) where
-  grown : (payloads : List (List ℕ)) → ReadAs payloads records → TimesRise 0 records → ReadAs (payloads ++ text ∷ []) (records ++ known ∷ []) × TimesRise 0 (records ++ known ∷ [])
+  pub grown : (payloads : List (List ℕ)) → ReadAs payloads records → TimesRise 0 records → ReadAs (payloads ++ text ∷ []) (records ++ known ∷ []) × TimesRise 0 (records ++ known ∷ [])
   grown payloads read rise = (ReadAs-push payloads records text known read reads, TimesRise-push 0 records known rise past (time_bounded text known reads))
 
 -- An append that was done.

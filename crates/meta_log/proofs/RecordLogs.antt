@@ -17,13 +17,13 @@ use Rattle.meta_log.proofs.Unique.{text_unique}
 use Rattle.meta_log.proofs.RecordLists.{ReadAs-unique}
 
 -- a log may hold any payloads
-any_allowed : (payloads : List (List ℕ)) → IsAllowed Log payloads
+pub any_allowed : (payloads : List (List ℕ)) → IsAllowed Log payloads
 any_allowed payloads = λ k d within. tt
 
 as_segment : (Allowed Also : List (List ℕ) → Type 0) (stem : Stem) (files : Files) (payloads : List (List ℕ)) → HasSegment Allowed stem files payloads → Also payloads → HasSegment Also stem files payloads
 as_segment Allowed Also stem files payloads held also = record { counts = held.counts; alone = held.alone; segment = held.segment; allowed = also }
 
-as_text : (Allowed Also : List (List ℕ) → Type 0) (stem : Stem) (files : Files) (payloads : List (List ℕ)) → HasText Allowed stem files payloads → Also payloads → HasText Also stem files payloads
+pub as_text : (Allowed Also : List (List ℕ) → Type 0) (stem : Stem) (files : Files) (payloads : List (List ℕ)) → HasText Allowed stem files payloads → Also payloads → HasText Also stem files payloads
 as_text Allowed Also stem files payloads (inl none) also = inl none
 as_text Allowed Also stem files payloads (inr held) also = inr (as_segment Allowed Also stem files payloads held also)
 

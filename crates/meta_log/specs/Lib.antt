@@ -15,3 +15,4 @@ pub mod Records
 pub mod Skip
 pub mod Kept
 pub mod RecordPlaces
+pub mod Images

@@ -1,8 +1,9 @@
-ghost use Rattle.std.specs.Prelude.{◌≡◌, ◌<◌, ◌+◌, ◌-◌, ◌^◌, ◌++◌, ◌∷◌, [], List, ℕ, IfOk, OnOk, IfErr, OnErr, IsErrOf, IfSome, None};
+ghost use Rattle.std.specs.Prelude.{◌≡◌, ◌<◌, ◌+◌, ◌-◌, ◌^◌, ◌++◌, ◌∷◌, [], List, ℕ, IfOk, OnOk, IfErr, OnErr, IsErrOf, IfSome, None, Some};
 ghost use Rattle.weed_base.specs.Told.{HasCause, IsCauseOf};
-ghost use Rattle.weed_base.specs.Files.{BothTold};
+ghost use Rattle.weed_base.specs.Files.{BothTold, Files};
+ghost use Rattle.weed_base.specs.Images.{LeavesOnly, OnlyReads};
 ghost use Rattle.meta_log.specs.Making.{LeavesOthers};
-ghost use Rattle.meta_log.specs.LogText.{segment_name, ChangesOnly, Suits, MayKeep, IsDamage};
+ghost use Rattle.meta_log.specs.LogText.{segment_name, ChangesOnly, Suits, MayKeep, IsDamage, IsLogText};
 
 use crate::fault::LogFault;
 use crate::gate_text::GateText;
@@ -24,7 +25,8 @@ pub struct GateLog {
 }
 
 impl GateLog {
-    ghost use Rattle.meta_log.specs.Held.{Holds, HoldsLog, HoldsText, HoldsEither, IsOpened, stem_of, gate_of};
+    ghost use Rattle.meta_log.specs.Held.{Holds, HoldsLog, HoldsText, HoldsEither, IsHeld, IsOpened, stem_of, gate_of};
+    ghost use Rattle.meta_log.specs.Images.{ImagesHold, IsEither, HasListOf};
     ghost use Rattle.meta_log.specs.Faults.{IfDamaged};
     ghost use Rattle.meta_log.specs.Places.{place_behind, HoldsPlace, IsNext};
 
@@ -38,6 +40,15 @@ impl GateLog {
 
         // Whatever comes of it, the list that the disk holds stays.
         ensures kept { (payloads : List (List ℕ)) → HoldsText stem (D.files disk.old) payloads → HoldsText stem (D.files disk.new) payloads }
+
+        // A crash at any moment leaves a list that one before the call would have left; after `Ok` the list that was
+        // read. Where each would have left a list, nothing is damaged.
+        ensures atomic { (files : Files) → D.files disk.old ≡ Some files → LeavesOnly D.tick D.image_since disk.old disk.new (HasListOf stem (D.images disk.old)) }
+        ensures settled { IfOk result (λ _. (files : Files) (payloads : List (List ℕ)) → D.files disk.old ≡ Some files → IsLogText stem files payloads
+            → ImagesHold stem (D.images disk.new) payloads) }
+        ensures own { (files : Files) → D.files disk.old ≡ Some files
+            → ((image : Files) → D.images disk.old image → (payloads : List (List ℕ)) × IsLogText stem image payloads) → IfErr result (IfDamaged (λ _ _. ⊥)) }
+
         ensures others { BothTold (LeavesOthers stem) (D.files disk.old) (D.files disk.new) }
         ensures cause { IsCauseOf (D.faults disk.old) (D.faults disk.new) (IsErrOf result LogFault.DiskFault) }
         ensures sent { (D.sent disk.new ≡ D.sent disk.old) × (D.send_faults disk.new ≡ D.send_faults disk.old) }
@@ -59,6 +70,13 @@ impl GateLog {
         ensures stem { stem_of self.new ≡ stem_of self.old }
         ensures moves { OnOk result (gate_of self.old < gate_of self.new) }
         ensures same { OnErr result (self.new ≡ self.old) }
+
+        // A crash at any moment leaves the list, or the list with the payload; after `Ok` the latter.
+        ensures atomic { (files : Files) (payloads : List (List ℕ)) → D.files disk.old ≡ Some files → IsHeld files self.old payloads
+            → ImagesHold (stem_of self.old) (D.images disk.old) payloads
+            → LeavesOnly D.tick D.image_since disk.old disk.new (IsEither (stem_of self.old) payloads text.now) }
+        ensures settled { OnOk result ((files : Files) (payloads : List (List ℕ)) → D.files disk.old ≡ Some files → IsHeld files self.old payloads
+            → ImagesHold (stem_of self.old) (D.images disk.new) (payloads ++ text.now ∷ [])) }
 
         ensures others { BothTold (ChangesOnly (segment_name (stem_of self.old) 1)) (D.files disk.old) (D.files disk.new) }
         ensures cause { HasCause (D.faults disk.old) (D.faults disk.new) result }
@@ -93,6 +111,7 @@ impl GateLog {
         ensures damaged { IfErr result (IfDamaged (λ _ _. D.files disk.old ≡ None)) }
 
         ensures files { D.files disk.new ≡ D.files disk.old }
+        ensures still { OnlyReads D.tick D.images D.image_since disk.old disk.new }
         ensures cause { IsCauseOf (D.faults disk.old) (D.faults disk.new) (IsErrOf result LogFault.DiskFault) }
         ensures sent { (D.sent disk.new ≡ D.sent disk.old) × (D.send_faults disk.new ≡ D.send_faults disk.old) }
     {

@@ -1,6 +1,7 @@
 ghost use Rattle.std.specs.Prelude.{◌≡◌, ◌<◌, ◌+◌, ◌^◌, length, List, ℕ, IfOk, IfErr, IsErrOf, IfSome, MatchOption, None};
 ghost use Rattle.weed_base.specs.Told.{IsCauseOf};
 ghost use Rattle.weed_base.specs.Files.{content};
+ghost use Rattle.weed_base.specs.Images.{OnlyReads};
 ghost use Rattle.meta_log.specs.Stretch.{IsOf};
 ghost use Rattle.meta_log.specs.Head.{HasItem};
 ghost use Rattle.meta_log.specs.Left.{among_items, IsLeft, MeetsNext, TakesNext, batch_from};
@@ -41,6 +42,7 @@ pub fn left_head<D: Disk>(
     ensures place { IfOk result (λ _. (reading.new.at ≡ reading.old.at) × (reading.new.size ≡ reading.old.size)) }
     ensures undamaged { IfErr result (IfDamaged (λ _ _. ⊥)) }
     ensures files { D.files disk.new ≡ D.files disk.old }
+    ensures still { OnlyReads D.tick D.images D.image_since disk.old disk.new }
     ensures cause { IsCauseOf (D.faults disk.old) (D.faults disk.new) (IsErrOf result LogFault.DiskFault) }
     ensures sent { (D.sent disk.new ≡ D.sent disk.old) × (D.send_faults disk.new ≡ D.send_faults disk.old) }
 {
@@ -68,6 +70,7 @@ fn take_text<D: Disk>(
     ensures damaged { IfErr result (IfDamaged (λ _ _. IfSome (D.files disk.old) (λ files.
         (left : List (List ℕ)) → ¬ IsLeft (content files name.now) gate reading.old.at left))) }
     ensures files { D.files disk.new ≡ D.files disk.old }
+    ensures still { OnlyReads D.tick D.images D.image_since disk.old disk.new }
     ensures cause { IsCauseOf (D.faults disk.old) (D.faults disk.new) (IsErrOf result LogFault.DiskFault) }
     ensures sent { (D.sent disk.new ≡ D.sent disk.old) × (D.send_faults disk.new ≡ D.send_faults disk.old) }
 {
@@ -103,6 +106,7 @@ pub fn collect<D: Disk>(
     ensures damaged { IfErr result (IfDamaged (λ _ _. IfSome (D.files disk.old) (λ files.
         (left : List (List ℕ)) → ¬ IsLeft (content files name.now) gate reading.old.at left))) }
     ensures files { D.files disk.new ≡ D.files disk.old }
+    ensures still { OnlyReads D.tick D.images D.image_since disk.old disk.new }
     ensures cause { IsCauseOf (D.faults disk.old) (D.faults disk.new) (IsErrOf result LogFault.DiskFault) }
     ensures sent { (D.sent disk.new ≡ D.sent disk.old) × (D.send_faults disk.new ≡ D.send_faults disk.old) }
 {

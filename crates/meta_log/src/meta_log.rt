@@ -1,6 +1,7 @@
-ghost use Rattle.std.specs.Prelude.{◌≡◌, ◌<◌, ◌≤◌, ◌+◌, ◌++◌, ◌∷◌, [], List, Bool, false, None, IfOk, OnOk, IfErr, OnErr, IsErrOf, IfSome};
+ghost use Rattle.std.specs.Prelude.{◌≡◌, ◌<◌, ◌≤◌, ◌+◌, ◌++◌, ◌∷◌, [], List, Bool, false, None, Some, IfOk, OnOk, IfErr, OnErr, IsErrOf, IfSome};
 ghost use Rattle.weed_base.specs.Told.{HasCause, IsCauseOf};
-ghost use Rattle.weed_base.specs.Files.{BothTold};
+ghost use Rattle.weed_base.specs.Files.{BothTold, Files};
+ghost use Rattle.weed_base.specs.Images.{LeavesOnly, OnlyReads};
 ghost use Rattle.name_core.specs.declared.change.Record.{Record};
 ghost use Rattle.name_core.specs.Log.{end_of_time};
 ghost use Rattle.meta_log.specs.Making.{LeavesOthers};
@@ -36,7 +37,8 @@ pub struct MetaLog {
 
 impl MetaLog {
     ghost use Rattle.meta_log.specs.Faults.{IfDamaged};
-    ghost use Rattle.meta_log.specs.Kept.{front_of, HoldsRecordLog, Keeps, HoldsRecords, HoldsEitherLog, IsOpenedFrom, IsRecordDamage, IsPast};
+    ghost use Rattle.meta_log.specs.Kept.{front_of, IsRecordLog, HoldsRecordLog, Keeps, HoldsRecords, HoldsEitherLog, IsOpenedFrom, IsKept, IsRecordDamage, IsPast};
+    ghost use Rattle.meta_log.specs.Images.{ImagesKeep, IsEitherLog, HasLogOf, IsOwn};
     ghost use Rattle.meta_log.specs.Places.{place_behind};
     ghost use Rattle.meta_log.specs.RecordPlaces.{KeepsPlace, AreNext};
 
@@ -50,6 +52,14 @@ impl MetaLog {
 
         // Whatever comes of it, the records that the disk holds stay.
         ensures kept { (records : List Record) → HoldsRecordLog (D.files disk.old) records → HoldsRecordLog (D.files disk.new) records }
+
+        // A crash at any moment leaves the records that one before the call would have left; after `Ok` those that were
+        // read. A disk of one's own isn't damaged.
+        ensures atomic { (files : Files) → D.files disk.old ≡ Some files → LeavesOnly D.tick D.image_since disk.old disk.new (HasLogOf (D.images disk.old)) }
+        ensures settled { IfOk result (λ _. (files : Files) (records : List Record) → D.files disk.old ≡ Some files → IsRecordLog files records
+            → ImagesKeep (D.images disk.new) records) }
+        ensures own { (files : Files) → D.files disk.old ≡ Some files → IsOwn (D.images disk.old) → IfErr result (IfDamaged (λ _ _. ⊥)) }
+
         ensures others { BothTold (LeavesOthers Log) (D.files disk.old) (D.files disk.new) }
         ensures cause { IsCauseOf (D.faults disk.old) (D.faults disk.new) (IsErrOf result LogFault.DiskFault) }
         ensures sent { (D.sent disk.new ≡ D.sent disk.old) × (D.send_faults disk.new ≡ D.send_faults disk.old) }
@@ -88,6 +98,13 @@ impl MetaLog {
         ensures front { OnOk result (front_of self.new ≡ record { count = (front_of self.old).count + 1; time = time }) }
         ensures same { OnErr result (self.new ≡ self.old) }
 
+        // A crash at any moment leaves the records, or the records with this one; after `Ok` the latter.
+        ensures atomic { (files : Files) (records : List Record) (known : Record) → D.files disk.old ≡ Some files → IsKept files self.old records
+            → ReadsAs text.now known → known.time ≡ time → ImagesKeep (D.images disk.old) records
+            → LeavesOnly D.tick D.image_since disk.old disk.new (IsEitherLog records known) }
+        ensures settled { OnOk result ((files : Files) (records : List Record) (known : Record) → D.files disk.old ≡ Some files → IsKept files self.old records
+            → ReadsAs text.now known → known.time ≡ time → ImagesKeep (D.images disk.new) (records ++ known ∷ [])) }
+
         ensures others { BothTold (ChangesOnly (segment_name Log 1)) (D.files disk.old) (D.files disk.new) }
         ensures cause { HasCause (D.faults disk.old) (D.faults disk.new) result }
         ensures sent { (D.sent disk.new ≡ D.sent disk.old) × (D.send_faults disk.new ≡ D.send_faults disk.old) }
@@ -114,6 +131,7 @@ impl MetaLog {
         ensures damaged { IfErr result (IfDamaged (λ _ _. D.files disk.old ≡ None)) }
 
         ensures files { D.files disk.new ≡ D.files disk.old }
+        ensures still { OnlyReads D.tick D.images D.image_since disk.old disk.new }
         ensures cause { IsCauseOf (D.faults disk.old) (D.faults disk.new) (IsErrOf result LogFault.DiskFault) }
         ensures sent { (D.sent disk.new ≡ D.sent disk.old) × (D.send_faults disk.new ≡ D.send_faults disk.old) }
     {

@@ -1,9 +1,11 @@
-ghost use Rattle.std.specs.Prelude.{◌≡◌, ◌<◌, ◌≤◌, ◌-◌, ◌^◌, [], List, ℕ, IfOk, IfErr, IsErrOf, IfSome};
+ghost use Rattle.std.specs.Prelude.{◌≡◌, ◌<◌, ◌≤◌, ◌-◌, ◌^◌, [], List, ℕ, IfOk, IfErr, IsErrOf, IfSome, Some};
 ghost use Rattle.weed_base.specs.Told.{IsCauseOf};
-ghost use Rattle.weed_base.specs.Files.{BothTold};
+ghost use Rattle.weed_base.specs.Files.{BothTold, Files};
+ghost use Rattle.weed_base.specs.Images.{Only, LeavesOnly};
 ghost use Rattle.meta_log.specs.LogText.{HasText, HasDamage, IsAllowed, MayKeep};
 ghost use Rattle.meta_log.specs.Making.{LeavesOthers};
 ghost use Rattle.meta_log.specs.Opening.{IsOpen};
+ghost use Rattle.meta_log.specs.Images.{ComesBy, IsMadeFrom};
 ghost use Rattle.meta_log.specs.Faults.{IfDamaged};
 
 use crate::check::Check;
@@ -34,6 +36,9 @@ pub fn open_first<D: Disk, C: Check>(
         IfSome (D.files disk.old) (λ files. HasDamage C.allowed stem files file at) × (D.files disk.new ≡ D.files disk.old))) }
     ensures kept { (payloads : List (List ℕ)) → IfSome (D.files disk.old) (λ files. HasText C.allowed stem files payloads)
         → IfSome (D.files disk.new) (λ files. HasText C.allowed stem files payloads) }
+    ensures atomic { (files : Files) → D.files disk.old ≡ Some files
+        → LeavesOnly D.tick D.image_since disk.old disk.new (ComesBy (IsMadeFrom stem) (D.images disk.old)) }
+    ensures settled { IfOk result (λ _. Only (D.files disk.new) (D.images disk.new)) }
     ensures others { BothTold (LeavesOthers stem) (D.files disk.old) (D.files disk.new) }
     ensures cause { IsCauseOf (D.faults disk.old) (D.faults disk.new) (IsErrOf result LogFault.DiskFault) }
     ensures sent { (D.sent disk.new ≡ D.sent disk.old) × (D.send_faults disk.new ≡ D.send_faults disk.old) }
@@ -65,6 +70,9 @@ pub fn open_stem<D: Disk>(alloc: Global, disk: &mut D, stem: Stem) -> Result<u64
         IfSome (D.files disk.old) (λ files. HasDamage (IsAllowed stem) stem files file at) × (D.files disk.new ≡ D.files disk.old))) }
     ensures kept { (payloads : List (List ℕ)) → IfSome (D.files disk.old) (λ files. HasText (IsAllowed stem) stem files payloads)
         → IfSome (D.files disk.new) (λ files. HasText (IsAllowed stem) stem files payloads) }
+    ensures atomic { (files : Files) → D.files disk.old ≡ Some files
+        → LeavesOnly D.tick D.image_since disk.old disk.new (ComesBy (IsMadeFrom stem) (D.images disk.old)) }
+    ensures settled { IfOk result (λ _. Only (D.files disk.new) (D.images disk.new)) }
     ensures others { BothTold (LeavesOthers stem) (D.files disk.old) (D.files disk.new) }
     ensures cause { IsCauseOf (D.faults disk.old) (D.faults disk.new) (IsErrOf result LogFault.DiskFault) }
     ensures sent { (D.sent disk.new ≡ D.sent disk.old) × (D.send_faults disk.new ≡ D.send_faults disk.old) }

@@ -1,6 +1,7 @@
 ghost use Rattle.std.specs.Prelude.{◌≡◌, ◌+◌, ◌≤◌, ◌<◌, ◌^◌, [], List, length, drop, IfOk, OnOk, IfErr, IsErrOf, IfSome, min};
 ghost use Rattle.weed_base.specs.Told.{HasCause, IsCauseOf};
 ghost use Rattle.weed_base.specs.Files.{content};
+ghost use Rattle.weed_base.specs.Images.{OnlyReads};
 ghost use Rattle.meta_log.specs.Stretch.{Stretch, IsOf, IsFilled, GrowsBy};
 ghost use Rattle.meta_log.specs.Faults.{IfDamaged};
 
@@ -55,6 +56,7 @@ fn extend_from<D: Disk>(
     ensures bound { length bytes.new.items ≤ length bytes.old.items + room }
     ensures undamaged { IfErr result (IfDamaged (λ _ _. ⊥)) }
     ensures files { D.files disk.new ≡ D.files disk.old }
+    ensures still { OnlyReads D.tick D.images D.image_since disk.old disk.new }
     ensures cause { IsCauseOf (D.faults disk.old) (D.faults disk.new) (IsErrOf result LogFault.DiskFault) }
     ensures sent { (D.sent disk.new ≡ D.sent disk.old) × (D.send_faults disk.new ≡ D.send_faults disk.old) }
 {
@@ -89,6 +91,7 @@ impl Reading {
         ensures of { IfOk result (λ reading. IfSome (D.files disk.old) (λ files.
             IsOf (content files name.now) reading × (reading.at ≡ min at (length (content files name.now))))) }
         ensures files { D.files disk.new ≡ D.files disk.old }
+        ensures still { OnlyReads D.tick D.images D.image_since disk.old disk.new }
         ensures cause { HasCause (D.faults disk.old) (D.faults disk.new) result }
         ensures sent { (D.sent disk.new ≡ D.sent disk.old) × (D.send_faults disk.new ≡ D.send_faults disk.old) }
     {
@@ -135,6 +138,7 @@ impl Reading {
         ensures place { OnOk result ((self.new.at ≡ self.old.at) × (self.new.size ≡ self.old.size)) }
         ensures undamaged { IfErr result (IfDamaged (λ _ _. ⊥)) }
         ensures files { D.files disk.new ≡ D.files disk.old }
+        ensures still { OnlyReads D.tick D.images D.image_since disk.old disk.new }
         ensures cause { IsCauseOf (D.faults disk.old) (D.faults disk.new) (IsErrOf result LogFault.DiskFault) }
         ensures sent { (D.sent disk.new ≡ D.sent disk.old) × (D.send_faults disk.new ≡ D.send_faults disk.old) }
     {

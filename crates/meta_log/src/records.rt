@@ -2,6 +2,7 @@ ghost use Rattle.std.specs.Prelude.{◌≡◌, ◌<◌, ◌≤◌, IfOk, OnOk, I
 ghost use Rattle.std.specs.Bool.{OnTrue};
 ghost use Rattle.weed_base.specs.Told.{IsCauseOf};
 ghost use Rattle.weed_base.specs.Files.{content};
+ghost use Rattle.weed_base.specs.Images.{OnlyReads};
 ghost use Rattle.meta_log.specs.Stretch.{IsOf};
 ghost use Rattle.meta_log.specs.Skip.{SkipsOne, SkipsTo};
 ghost use Rattle.meta_log.specs.Faults.{IfDamaged};
@@ -53,6 +54,7 @@ fn skip_one<D: Disk>(
     ensures goes { IfOk result (λ skipped. (reading.new.size ≡ reading.old.size) × OnTrue skipped ((reading.old.at < reading.new.at) × (reading.new.at ≤ reading.new.size))) }
     ensures undamaged { IfErr result (IfDamaged (λ _ _. ⊥)) }
     ensures files { D.files disk.new ≡ D.files disk.old }
+    ensures still { OnlyReads D.tick D.images D.image_since disk.old disk.new }
     ensures cause { IsCauseOf (D.faults disk.old) (D.faults disk.new) (IsErrOf result LogFault.DiskFault) }
     ensures sent { (D.sent disk.new ≡ D.sent disk.old) × (D.send_faults disk.new ≡ D.send_faults disk.old) }
 {
@@ -82,6 +84,7 @@ pub fn skip_past<D: Disk>(
     ensures skipped { OnOk result (IfSome (D.files disk.old) (λ files. SkipsTo (content files name.now) gate after reading.old.at reading.new.at)) }
     ensures undamaged { IfErr result (IfDamaged (λ _ _. ⊥)) }
     ensures files { D.files disk.new ≡ D.files disk.old }
+    ensures still { OnlyReads D.tick D.images D.image_since disk.old disk.new }
     ensures cause { IsCauseOf (D.faults disk.old) (D.faults disk.new) (IsErrOf result LogFault.DiskFault) }
     ensures sent { (D.sent disk.new ≡ D.sent disk.old) × (D.send_faults disk.new ≡ D.send_faults disk.old) }
 {

@@ -1,5 +1,6 @@
 ghost use Rattle.std.specs.Prelude.{◌≡◌, ◌≢◌, ◌↔◌, ◌++◌, ℕ, List, codes, Any, IsTrue, IfOk, IfErr, IsErrOf, IfSome, MatchBool, MatchOption};
 ghost use Rattle.weed_base.specs.Told.{HasCause, IsCauseOf};
+ghost use Rattle.weed_base.specs.Images.{OnlyReads};
 ghost use Rattle.std.specs.Char.{is_ascii_digit};
 ghost use Rattle.std.specs.List.{list_all};
 ghost use Rattle.std.specs.Str.{bytes_eq};
@@ -81,6 +82,7 @@ fn any_later_on(stem: Stem, names: &[FileName]) -> bool
 fn later_counts<D: Disk>(alloc: Global, disk: &mut D, stem: Stem) -> Result<bool, NamesFault>
     ensures found { IfOk result (λ some. IfSome (D.files disk.old) (λ files. MatchBool some (SomeFrom stem 2 files) (NoneFrom stem 2 files))) }
     ensures files { D.files disk.new ≡ D.files disk.old }
+    ensures still { OnlyReads D.tick D.images D.image_since disk.old disk.new }
     ensures cause { IsCauseOf (D.faults disk.old) (D.faults disk.new) (IsErrOf result NamesFault.Failed) }
     ensures sent { (D.sent disk.new ≡ D.sent disk.old) × (D.send_faults disk.new ≡ D.send_faults disk.old) }
 {
@@ -92,6 +94,7 @@ fn later_counts<D: Disk>(alloc: Global, disk: &mut D, stem: Stem) -> Result<bool
 fn first_counts<D: Disk>(disk: &mut D, stem: Stem) -> Result<bool, Failed>
     ensures found { IfOk result (λ some. IfSome (D.files disk.old) (λ files. IsTrue some ↔ Counts stem 1 files)) }
     ensures files { D.files disk.new ≡ D.files disk.old }
+    ensures still { OnlyReads D.tick D.images D.image_since disk.old disk.new }
     ensures cause { HasCause (D.faults disk.old) (D.faults disk.new) result }
     ensures sent { (D.sent disk.new ≡ D.sent disk.old) × (D.send_faults disk.new ≡ D.send_faults disk.old) }
 {
@@ -115,6 +118,7 @@ pub fn find_standing<D: Disk>(alloc: Global, disk: &mut D, stem: Stem) -> Result
     ensures found { IfOk result (λ found. IfSome (D.files disk.old) (λ files. IsStanding stem files found)) }
     ensures undamaged { IfErr result (IfDamaged (λ _ _. ⊥)) }
     ensures files { D.files disk.new ≡ D.files disk.old }
+    ensures still { OnlyReads D.tick D.images D.image_since disk.old disk.new }
     ensures cause { IsCauseOf (D.faults disk.old) (D.faults disk.new) (IsErrOf result LogFault.DiskFault) }
     ensures sent { (D.sent disk.new ≡ D.sent disk.old) × (D.send_faults disk.new ≡ D.send_faults disk.old) }
 {

@@ -3,6 +3,7 @@ use Rattle.std.specs.Prelude.{IfSome, MatchOption}
 use Rattle.std.proofs.lemmas.Result.{err_from_is_err_and}
 use Rattle.std.proofs.lemmas.List.{length_push}
 use Rattle.weed_base.specs.Files.{content}
+use Rattle.weed_base.proofs.ImageLemmas.{reads_both}
 use Rattle.meta_log.specs.Segment.{items}
 use Rattle.meta_log.specs.Stretch.{IsOf}
 use Rattle.meta_log.proofs.Frames.{length-items-push, length-ready}
@@ -49,4 +50,5 @@ taking-preserved g c =
       omega (arith, c.taking.invariant.6, c.take_text.ensures.cause.later),
       c.take_text.ensures.sent.0 ∙ c.taking.invariant.7,
       c.take_text.ensures.sent.1 ∙ c.taking.invariant.8,
+      reads_both g.D.Disk.tick g.D.Disk.images g.D.Disk.image_since c.args.disk.now c.taking.disk c.take_text.new.disk c.taking.invariant.9 c.take_text.ensures.still,
     )

@@ -1,6 +1,7 @@
 use Rattle.std.proofs.Common.{◌≡◌, ℕ, ◌+◌, ◌-◌, ◌≤◌, List, length}
 use Rattle.std.specs.Prelude.{IfSome}
 use Rattle.weed_base.specs.Files.{content}
+use Rattle.weed_base.specs.Images.{OnlyReads}
 use Rattle.meta_log.specs.Segment.{items}
 use Rattle.meta_log.specs.Stretch.{IsOf}
 use Rattle.meta_log.specs.Left.{IsLeft}
@@ -20,6 +21,7 @@ invariant-taking g l =
     × (g.D.Disk.faults l.fn.disk ≤ g.D.Disk.faults l.disk)
     × (g.D.Disk.sent l.disk ≡ g.D.Disk.sent l.fn.disk)
     × (g.D.Disk.send_faults l.disk ≡ g.D.Disk.send_faults l.fn.disk)
+    × OnlyReads g.D.Disk.tick g.D.Disk.images g.D.Disk.image_since l.fn.disk l.disk
 
 abbrev pub decreases-taking : goal.decreases-taking
 decreases-taking g l = l.room - length l.texts.items

@@ -5,6 +5,11 @@ use Rattle.meta_log.specs.LogText.{NoneFrom, ChangesOnly}
 use Rattle.meta_log.specs.Making.{IsPrepared}
 use Rattle.meta_log.proofs.Told.{told_done, done_twice, told_failed, told_related, both_done, both_failed, both_twice, on_ok, on_err}
 use Rattle.meta_log.proofs.Made.{segment_named, segment_torn, segment_prepared, segment_within, made_others, unchanged, joined}
+use Rattle.weed_base.specs.Images.{Tears}
+use Rattle.weed_base.proofs.ImageLemmas.{leaves_both, leaves_call, leaves_weaker}
+use Rattle.meta_log.specs.Images.{ComesBy}
+use Rattle.meta_log.proofs.Crashes.{none_torn}
+use Rattle.meta_log.proofs.OpenCrashes.{none_taken}
 use Rattle.meta_log.proofs.make.make_segment.Goals as goal
 
 pub returns-in_err-make-clause-failed : goal.returns-in_err-make-clause-failed
@@ -43,3 +48,19 @@ returns-clause-others g c =
     subst (λ name. BothTold (ChangesOnly name) (g.D.Disk.files c.args.disk.now) (g.D.Disk.files c.write_settled.new.disk)) c.first_segment-segment.ensures
     (both_twice (ChangesOnly name) (ChangesOnly name) (ChangesOnly name) _ (g.D.Disk.files c.make.new.self) _
     (both_done (ChangesOnly name) (made name) _ _ c.in_ok-make.ensures.files (made_others name)) c.write_settled.ensures.others (joined name))
+
+-- what a crash leaves
+pub returns-in_err-make-clause-atomic : goal.returns-in_err-make-clause-atomic
+returns-in_err-make-clause-atomic g c none =
+    leaves_call g.D.Disk.tick g.D.Disk.image_since g.D.Disk.images c.args.disk.now c.make.new.self (NoneFrom c.args.stem 1) c.make.ensures.time
+    (none_taken c.args.stem c.first_segment-segment.result c.first_segment-segment.ensures _ (g.D.Disk.images c.make.new.self) c.make.ensures.images none)
+
+pub returns-clause-atomic : goal.returns-clause-atomic
+returns-clause-atomic g c none =
+    let file = c.first_segment-segment.result in
+    let made_none = none_taken c.args.stem file c.first_segment-segment.ensures (g.D.Disk.images c.args.disk.now) (g.D.Disk.images c.make.new.self) c.make.ensures.images none in
+    leaves_both g.D.Disk.tick g.D.Disk.image_since c.args.disk.now c.make.new.self c.write_settled.new.disk (NoneFrom c.args.stem 1)
+    (leaves_call g.D.Disk.tick g.D.Disk.image_since g.D.Disk.images c.args.disk.now c.make.new.self (NoneFrom c.args.stem 1) c.make.ensures.time made_none)
+    (leaves_weaker g.D.Disk.tick g.D.Disk.image_since c.make.new.self c.write_settled.new.disk (ComesBy (Tears file 0 1) (g.D.Disk.images c.make.new.self)) (NoneFrom c.args.stem 1)
+    (λ image from. none_torn c.args.stem 0 1 from.0 image (made_none from.0 from.1) (subst (λ name. Tears name 0 1 from.0 image) c.first_segment-segment.ensures from.2))
+    c.write_settled.ensures.atomic)

@@ -1,6 +1,7 @@
 use Rattle.std.proofs.Common.{◌≡◌, ℕ, ◌-◌, ◌≤◌, List}
 use Rattle.std.specs.Prelude.{IfSome}
 use Rattle.weed_base.specs.Files.{content}
+use Rattle.weed_base.specs.Images.{OnlyReads}
 use Rattle.meta_log.specs.Stretch.{IsOf}
 use Rattle.meta_log.specs.Skip.{IsAhead, AreLate}
 use Rattle.meta_log.proofs.records.skip_past.Given as goal
@@ -15,6 +16,7 @@ invariant-skipping g l =
     × (g.D.Disk.faults l.fn.disk ≤ g.D.Disk.faults l.disk)
     × (g.D.Disk.sent l.disk ≡ g.D.Disk.sent l.fn.disk)
     × (g.D.Disk.send_faults l.disk ≡ g.D.Disk.send_faults l.fn.disk)
+    × OnlyReads g.D.Disk.tick g.D.Disk.images g.D.Disk.image_since l.fn.disk l.disk
 
 abbrev pub decreases-skipping : goal.decreases-skipping
 decreases-skipping g l = l.reading.size - l.reading.at

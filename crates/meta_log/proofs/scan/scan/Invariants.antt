@@ -1,6 +1,7 @@
 use Rattle.std.proofs.Common.{◌≡◌, ◌-◌, ◌≤◌}
 use Rattle.std.specs.Prelude.{IfSome}
 use Rattle.weed_base.specs.Files.{content}
+use Rattle.weed_base.specs.Images.{OnlyReads}
 use Rattle.meta_log.specs.LogText.{segment_name}
 use Rattle.meta_log.specs.Scan.{IsScanned}
 use Rattle.meta_log.proofs.scan.scan.Given as goal
@@ -15,6 +16,7 @@ invariant-loop-reading g l =
     × (g.D.Disk.faults l.fn.disk ≤ g.D.Disk.faults l.disk)
     × (g.D.Disk.sent l.disk ≡ g.D.Disk.sent l.fn.disk)
     × (g.D.Disk.send_faults l.disk ≡ g.D.Disk.send_faults l.fn.disk)
+    × OnlyReads g.D.Disk.tick g.D.Disk.images g.D.Disk.image_since l.fn.disk l.disk
 
 abbrev pub decreases-loop-reading : goal.decreases-loop-reading
 decreases-loop-reading g l = l.reading.size - l.reading.at

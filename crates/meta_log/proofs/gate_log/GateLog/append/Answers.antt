@@ -3,7 +3,9 @@ use Rattle.std.proofs.lemmas.Result.{err_from_is_err_and}
 use Rattle.std.specs.Prelude.{IfSome}
 use Rattle.weed_base.specs.Files.{IsWithin, BothTold}
 use Rattle.meta_log.specs.LogText.{ChangesOnly}
+use Rattle.meta_log.specs.Held.{HoldsLog}
 use Rattle.meta_log.proofs.Appends.{first_failed, first_done, last_failed, last_done, ready_within, others_twice}
+use Rattle.meta_log.proofs.Crashes.{first_leaves, both_leave, settled_holds}
 use Rattle.meta_log.proofs.gate_log.GateLog.append.Goals as goal
 
 -- the first write failed
@@ -52,3 +54,34 @@ returns-clause-held g c =
       last_done (g.D.Disk.files c.args.disk.now) (g.D.Disk.files c.write_settled.new.disk) (g.D.Disk.files c.write_settled-2.new.disk) c.args.self.now c.args.text.now _ _ c.first_segment-segment.ensures c.ready-behind.ensures.bytes
           c.ready-behind.ensures.short c.requires.suits c.in_ok-write_settled.ensures.files _ refl refl c.in_ok-write_settled-2.ensures.files held.0 held.1,
     )
+
+-- what a crash leaves
+pub returns-in_err-write_settled-clause-atomic : goal.returns-in_err-write_settled-clause-atomic
+returns-in_err-write_settled-clause-atomic g c files payloads is held hold =
+    first_leaves g.D.Disk.tick g.D.Disk.image_since g.D.Disk.images c.args.self.now payloads c.args.text.now _ _ c.first_segment-segment.ensures held.gate
+    c.args.disk.now c.write_settled.new.disk hold c.write_settled.ensures.atomic
+
+pub returns-in_err-write_settled-2-clause-atomic : goal.returns-in_err-write_settled-2-clause-atomic
+returns-in_err-write_settled-2-clause-atomic g c files payloads is held hold =
+    let log = c.args.self.now in
+    let text = c.args.text.now in
+    let prepared = first_done (g.D.Disk.files c.args.disk.now) (g.D.Disk.files c.write_settled.new.disk) (g.D.Disk.files c.args.disk.now) log text _ _ c.first_segment-segment.ensures c.ready-behind.ensures.bytes
+    c.in_ok-write_settled.ensures.files payloads (subst (λ o. HoldsLog o log payloads) (sym is) held) in
+    both_leave g.D.Disk.tick g.D.Disk.image_since g.D.Disk.images log payloads text _ _ c.first_segment-segment.ensures held.gate
+    (g.D.Disk.files c.write_settled.new.disk) c.args.disk.now c.write_settled.new.disk c.write_settled-2.new.disk c.ready-behind.ensures.short c.requires.suits hold
+    c.write_settled.ensures.atomic prepared c.in_ok-write_settled.ensures.settled c.write_settled-2.ensures.atomic
+
+pub returns-clause-atomic : goal.returns-clause-atomic
+returns-clause-atomic g c files payloads is held hold =
+    let log = c.args.self.now in
+    let text = c.args.text.now in
+    let prepared = first_done (g.D.Disk.files c.args.disk.now) (g.D.Disk.files c.write_settled.new.disk) (g.D.Disk.files c.args.disk.now) log text _ _ c.first_segment-segment.ensures c.ready-behind.ensures.bytes
+    c.in_ok-write_settled.ensures.files payloads (subst (λ o. HoldsLog o log payloads) (sym is) held) in
+    both_leave g.D.Disk.tick g.D.Disk.image_since g.D.Disk.images log payloads text _ _ c.first_segment-segment.ensures held.gate
+    (g.D.Disk.files c.write_settled.new.disk) c.args.disk.now c.write_settled.new.disk c.write_settled-2.new.disk c.ready-behind.ensures.short c.requires.suits hold
+    c.write_settled.ensures.atomic prepared c.in_ok-write_settled.ensures.settled c.write_settled-2.ensures.atomic
+
+pub returns-clause-settled : goal.returns-clause-settled
+returns-clause-settled g c files payloads is held =
+    let holds = returns-clause-appended g c payloads (subst (λ o. HoldsLog o c.args.self.now payloads) (sym is) held) in
+    settled_holds (g.D.Disk.files c.write_settled-2.new.disk) (g.D.Disk.images c.write_settled-2.new.disk) c.args.self.now _ (payloads ++ c.args.text.now ∷ []) refl c.in_ok-write_settled-2.ensures.settled holds

@@ -5,6 +5,7 @@ use Rattle.weed_base.specs.Files.{BothTold}
 use Rattle.meta_log.specs.LogText.{segment_name, ChangesOnly}
 use Rattle.meta_log.specs.Kept.{front_of}
 use Rattle.meta_log.proofs.RecordLists.{record_appended, record_failed}
+use Rattle.meta_log.proofs.RecordCrashes.{same_texts, records_leave, records_settle}
 use Rattle.meta_log.proofs.meta_log.MetaLog.append.Goals as goal
 
 pub returns-in_err-append-clause-failed : goal.returns-in_err-append-clause-failed
@@ -32,3 +33,24 @@ returns-clause-held g c =
           c.in_ok-append.ensures.appended held.0 reads.0 held.1 reads.1 (subst (λ n. (front_of c.args.self.now).time < n) (sym reads.2) c.requires.past)
           (ap (λ (n : ℕ). let f : Front = record { count = c.args.self.now.front.count + 1; time = n } in f) (sym reads.2)),
     )
+
+-- what a crash leaves
+pub returns-in_err-append-clause-atomic : goal.returns-in_err-append-clause-atomic
+returns-in_err-append-clause-atomic g c files records known is kept reads time keep =
+    let meta = c.args.self.now in
+    let hold = same_texts meta files records meta.is_log kept (g.D.Disk.images c.args.disk.now) (g.met.D.Disk.reads_now c.args.disk.now files is) keep in
+    records_leave meta files records meta.is_log kept c.args.text.now known reads (subst (λ n. (front_of meta).time < n) (sym time) c.requires.past)
+    g.D.Disk.tick g.D.Disk.image_since c.args.disk.now c.append.new.disk (c.append.ensures.atomic files kept.payloads is kept.held hold)
+
+pub returns-clause-atomic : goal.returns-clause-atomic
+returns-clause-atomic g c files records known is kept reads time keep =
+    let meta = c.args.self.now in
+    let hold = same_texts meta files records meta.is_log kept (g.D.Disk.images c.args.disk.now) (g.met.D.Disk.reads_now c.args.disk.now files is) keep in
+    records_leave meta files records meta.is_log kept c.args.text.now known reads (subst (λ n. (front_of meta).time < n) (sym time) c.requires.past)
+    g.D.Disk.tick g.D.Disk.image_since c.args.disk.now c.append.new.disk (c.append.ensures.atomic files kept.payloads is kept.held hold)
+
+pub returns-clause-settled : goal.returns-clause-settled
+returns-clause-settled g c files records known is kept reads time =
+    let meta = c.args.self.now in
+    records_settle meta files records meta.is_log kept c.args.text.now known reads (subst (λ n. (front_of meta).time < n) (sym time) c.requires.past)
+    (g.D.Disk.images c.append.new.disk) (c.in_ok-append.ensures.settled files kept.payloads is kept.held)
