@@ -173,6 +173,7 @@ impl MetaLog {
         ensures damaged { IfErr result (IfDamaged (λ _ _. D.files disk.old ≡ None)) }
 
         ensures files { D.files disk.new ≡ D.files disk.old }
+        ensures still { OnlyReads D.tick D.images D.image_since disk.old disk.new }
         ensures cause { IsCauseOf (D.faults disk.old) (D.faults disk.new) (IsErrOf result LogFault.DiskFault) }
         ensures sent { (D.sent disk.new ≡ D.sent disk.old) × (D.send_faults disk.new ≡ D.send_faults disk.old) }
     {

@@ -1,5 +1,6 @@
 ghost use Rattle.std.specs.Prelude.{◌≡◌, ◌<◌, ◌∷◌, [], List, None, IfOk, IfErr, IsErrOf, MatchOption, MatchBool};
 ghost use Rattle.weed_base.specs.Told.{IsCauseOf};
+ghost use Rattle.weed_base.specs.Images.{OnlyReads};
 ghost use Rattle.name_core.specs.declared.change.Record.{Record};
 ghost use Rattle.name_core.specs.RecordText.{CanBeWritten};
 ghost use Rattle.meta_log.specs.Faults.{IfDamaged};
@@ -33,6 +34,7 @@ pub fn replay<D: Disk>(alloc: Global, disk: &mut D, log: &MetaLog) -> Result<Nam
     ensures damaged { IfErr result (IfDamaged (λ _ _. D.files disk.old ≡ None)) }
 
     ensures files { D.files disk.new ≡ D.files disk.old }
+    ensures still { OnlyReads D.tick D.images D.image_since disk.old disk.new }
     ensures cause { IsCauseOf (D.faults disk.old) (D.faults disk.new) (IsErrOf result LogFault.DiskFault) }
     ensures sent { (D.sent disk.new ≡ D.sent disk.old) × (D.send_faults disk.new ≡ D.send_faults disk.old) }
 {
@@ -62,6 +64,7 @@ fn take_page<D: Disk>(
     ensures damaged { IfErr result (IfDamaged (λ _ _. D.files disk.old ≡ None)) }
 
     ensures files { D.files disk.new ≡ D.files disk.old }
+    ensures still { OnlyReads D.tick D.images D.image_since disk.old disk.new }
     ensures cause { IsCauseOf (D.faults disk.old) (D.faults disk.new) (IsErrOf result LogFault.DiskFault) }
     ensures sent { (D.sent disk.new ≡ D.sent disk.old) × (D.send_faults disk.new ≡ D.send_faults disk.old) }
 {

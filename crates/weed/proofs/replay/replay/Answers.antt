@@ -1,5 +1,6 @@
 use Rattle.std.proofs.Common.{◌≡◌, refl, sym, ap, subst, arith}
 use Rattle.meta_log.specs.declared.front.Front.{Front}
+use Rattle.weed_base.proofs.ImageLemmas.{reads_nothing}
 use Rattle.weed.specs.Replay.{HoldsNames}
 use Rattle.weed.proofs.ReplayLemmas.{none_taken, all_taken}
 use Rattle.weed.proofs.replay.replay.Goals as goal
@@ -9,6 +10,7 @@ loop-rest-init g c = record {
   files = refl;
   taken = none_taken (g.D.Disk.files c.args.disk.now) c.args.log.now c.new-names.result c.start.result c.front.result.count c.requires
       c.new-names.ensures c.start.ensures (ap (λ (f : Front). f.count) c.front.ensures.front);
+  still = reads_nothing g.D.Disk.tick g.D.Disk.images g.D.Disk.image_since c.args.disk.now;
   faults = omega arith;
   sent = refl;
   send_faults = refl;

@@ -22,9 +22,9 @@ event_more front changes i change within is =
 pub loop-change-preserved : goal.loop-change-preserved
 loop-change-preserved c = record {
   text = c.in_ok-message.ensures.ok
-  ∙ ap (λ event. c.loop-change.text ++ message_field 2 event) (c.as_slice.ensures ∙ c.in_ok-set_event.ensures.text)
-  ∙ ap (λ text. text ++ message_field 2 (change_text c.change-item.result)) c.loop-change.invariant.text
-  ∙ event_more _ _ c.loop-change.change-index c.change-item.result (omega arith) c.change-item.is;
+      ∙ ap (λ event. c.loop-change.text ++ message_field 2 event) (c.as_slice.ensures ∙ c.in_ok-set_event.ensures.text)
+      ∙ ap (λ text. text ++ message_field 2 (change_text c.change-item.result)) c.loop-change.invariant.text
+      ∙ event_more _ _ c.loop-change.change-index c.change-item.result (omega arith) c.change-item.is;
   fits = All-more FitsTypes _ c.loop-change.change-index c.change-item.result (omega arith) c.loop-change.invariant.fits (subst FitsTypes c.change-item.is c.in_ok-set_event.ensures.fits);
 }
 
