@@ -6,7 +6,7 @@ use Rattle.std.proofs.Math.Seq.{take-add}
 use Rattle.std.proofs.lemmas.List.{take_at, drop_at, drop-take, take-take, append-nil}
 use Rattle.std.proofs.lemmas.List.Elements.{All-push}
 use Rattle.weed_base.specs.Files.{Files, content}
-use Rattle.meta_log.specs.Segment.{IsShort, framed, item, items, IsBroken}
+use Rattle.meta_log.specs.Segment.{IsShort, framed, item, items, EndsBadly, IsBroken}
 use Rattle.meta_log.specs.Stretch.{Stretch, IsOf}
 use Rattle.meta_log.specs.Head.{IsNextHead}
 use Rattle.meta_log.specs.Scan.{IsScanned}
@@ -39,30 +39,26 @@ module _ (Passed : List (List ℕ) → Type 0) (bytes : List ℕ) (reading : Str
   parted : bytes ≡ items scanned.good ++ drop reading.at bytes
   parted = sym (take-append-drop reading.at bytes) ∙ ap (λ (l : List ℕ). l ++ drop reading.at bytes) scanned.front
 
-  -- neither a gate that isn't open nor an item
-  pub broken_there : (Allowed : List (List ℕ) → Type 0) → ((before : List (List ℕ)) → Passed before → Allowed before) → IsNextHead (drop reading.at bytes) BrokenHead → IsBroken Allowed bytes reading.at
-  broken_there Allowed sound head = record {
+  -- what stands there ends the good items badly
+  ends_there : (Allowed : List (List ℕ) → Type 0) → ((before : List (List ℕ)) → Passed before → Allowed before) → EndsBadly Allowed scanned.good (drop reading.at bytes) → IsBroken Allowed bytes reading.at
+  ends_there Allowed sound ends = record {
     good = scanned.good;
     tail = drop reading.at bytes;
     spelled = parted;
     place = place;
     short = scanned.short;
     allowed = sound scanned.good scanned.passed;
-    ends = elim head [ inl none ↦ inl none | inr cut ↦ inr (inl cut) ];
+    ends = ends;
   }
+
+  -- neither a gate that isn't open nor an item
+  pub broken_there : (Allowed : List (List ℕ) → Type 0) → ((before : List (List ℕ)) → Passed before → Allowed before) → IsNextHead (drop reading.at bytes) BrokenHead → IsBroken Allowed bytes reading.at
+  broken_there Allowed sound head = ends_there Allowed sound (elim head [ inl none ↦ inl none | inr cut ↦ inr (inl cut) ])
 
   module _ (payload rest : List ℕ) (spelled : drop reading.at bytes ≡ item payload ++ rest) (fits : IsShort payload) where
     -- an item that is refused
     pub refused_there : (Allowed : List (List ℕ) → Type 0) → ((before : List (List ℕ)) → Passed before → Allowed before) → ¬ Allowed (scanned.good ++ payload ∷ []) → IsBroken Allowed bytes reading.at
-    refused_there Allowed sound refused = record {
-      good = scanned.good;
-      tail = drop reading.at bytes;
-      spelled = parted;
-      place = place;
-      short = scanned.short;
-      allowed = sound scanned.good scanned.passed;
-      ends = inr (inr (payload, rest, spelled, fits, refused));
-    }
+    refused_there Allowed sound refused = ends_there Allowed sound (inr (inr (payload, rest, spelled, fits, refused)))
 
     length-item : length (item payload) ≡ 5 + length payload
     length-item = omega (arith, length-framed payload)
