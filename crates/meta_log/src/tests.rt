@@ -5,6 +5,7 @@ ghost use Rattle.meta_log.specs.Kept.{Keeps};
 use super::*;
 use name_core::Record;
 use std::alloc::{AllocError, Global};
+use std::process::Abort;
 use std::test::Fail;
 use weed_base::{Bytes, Disk, Failed, FileName, Items, LogText, MemDisk, NamedBytes};
 
@@ -215,14 +216,23 @@ fn times_after<D: Disk>(
     Ok(times)
 }
 
+/// Opens the log of a disk and appends the records of `made_at` for 50, 51 and 52.
+fn open_with_three<D: Disk>(rt: &impl Abort, alloc: Global, disk: &mut D) -> Result<MetaLog, Fail>
+    requires { D.MARKS_ONLY ≡ false }
+    ensures { IfOk result (Keeps (D.files disk.new)) }
+{
+    let mut meta = MetaLog::open(alloc, disk)?;
+    assert!(rt; add(alloc, &mut meta, disk, &made_at(50))?);
+    assert!(rt; add(alloc, &mut meta, disk, &made_at(51))?);
+    assert!(rt; add(alloc, &mut meta, disk, &made_at(52))?);
+    Ok(meta)
+}
+
 #[test]
 fn records_past_a_time_are_read(rt: HostRuntime) -> Result<(), Fail> {
     let alloc = rt.alloc();
     let mut disk = disk(alloc, &[], &[])?;
-    let mut meta = MetaLog::open(alloc, &mut disk)?;
-    assert!(rt; add(alloc, &mut meta, &mut disk, &made_at(50))?);
-    assert!(rt; add(alloc, &mut meta, &mut disk, &made_at(51))?);
-    assert!(rt; add(alloc, &mut meta, &mut disk, &made_at(52))?);
+    let meta = open_with_three(&rt, alloc, &mut disk)?;
     assert_eq!(rt; meta.front(), Front { count: 3, time: 52 });
     assert_eq!(rt;
         times_after(alloc, &meta, &mut disk, 0, 10)?.as_slice(),
@@ -278,6 +288,26 @@ fn payloads_are_read_from_a_place(rt: HostRuntime) -> Result<(), Fail> {
     let (texts, next) = log.read_from(rt.alloc(), &mut disk, next, 5)?;
     assert_eq!(rt; lengths(&texts), (1, 2));
     assert_eq!(rt; next, Place { segment: 1, at: 18 });
+    Ok(())
+}
+
+#[test]
+#[tactic(auto, using(crate::proofs::RecordPlaces::start_keeps))]
+fn records_are_read_from_a_place(rt: HostRuntime) -> Result<(), Fail> {
+    let alloc = rt.alloc();
+    let mut disk = disk(alloc, &[], &[])?;
+    let meta = open_with_three(&rt, alloc, &mut disk)?;
+    let (texts, next) = meta.read_from(alloc, &mut disk, meta.start(), 2)?;
+    assert_eq!(rt; lengths(&texts), (2, 50));
+    assert_eq!(rt; next, Place { segment: 1, at: 60 });
+    let (texts, next) = meta.read_from(alloc, &mut disk, next, 2)?;
+    let text = texts.as_slice().first().ok_or("no text")?;
+    assert_eq!(rt; text.as_slice(), made_at(52).as_slice());
+    assert_eq!(rt; lengths(&texts), (1, 25));
+    assert_eq!(rt; next, Place { segment: 1, at: 90 });
+    let (texts, next) = meta.read_from(alloc, &mut disk, next, 2)?;
+    assert_eq!(rt; lengths(&texts), (0, 0));
+    assert_eq!(rt; next, Place { segment: 1, at: 90 });
     Ok(())
 }
 
