@@ -111,17 +111,78 @@ fn a_bad_path_and_a_request_of_another_kind_are_refused_and_close(
     Ok(())
 }
 
-const THREE: &[u8] = b"POST /a/ HTTP/1.1\r\n\r\nPOST /b/ HTTP/1.1\r\n\r\nPOST /c/ HTTP/1.1\r\n\r\n";
+/// What is sent for a request of that target over an empty disk.
+fn sent_for(alloc: Global, target: &str) -> Result<String, Fail> {
+    let input = format!(in alloc; "POST {target} HTTP/1.1\r\n\r\n")?;
+    let ran = run_once(alloc, input.as_bytes())?;
+    let sent = str::from_utf8(ran.sent()).map_err(|_| "no text")?;
+    Ok(String::from_str(alloc, sent)?)
+}
+
+/// The answer that refuses a path with that fault.
+fn refusal_with(alloc: Global, fault: &str) -> Result<String, Fail> {
+    let json = format!(in alloc; "{{\"error\":\"{fault}\"}}")?;
+    let length = json.len();
+    Ok(format!(in alloc;
+        "HTTP/1.1 400 Bad Request\r\nContent-Type: application/json\r\nContent-Length: {length}\r\nConnection: close\r\n\r\n{json}"
+    )?)
+}
 
 #[test]
-fn input_in_pieces_is_answered_as_the_whole(rt: HostRuntime) -> Result<(), Fail> {
+fn each_fault_of_a_path_is_named(rt: HostRuntime) -> Result<(), Fail> {
     let alloc = rt.alloc();
-    let whole = run_once(alloc, THREE)?;
-    for most in [1, 2, 17, 18, 19, 20, 21, 22] {
-        let source = source_of(alloc, THREE)?.with_most(most);
+    let long_part = "a".repeat(alloc, 256)?;
+    let long = format!(in alloc; "/{long_part}/")?;
+    let parts = "a/".repeat(alloc, 65)?;
+    let deep = format!(in alloc; "/{parts}")?;
+    let many_parts = "a/".repeat(alloc, 2049)?;
+    let longest = format!(in alloc; "/{many_parts}")?;
+    let table = [
+        ("/a//", "EmptyPart"),
+        ("/a/../", "DotPart"),
+        ("/./", "DotPart"),
+        (long.as_str(), "PartTooLong"),
+        (deep.as_str(), "TooDeep"),
+        (longest.as_str(), "TooLong"),
+    ];
+    for (target, fault) in table {
+        let wanted = refusal_with(alloc, fault)?;
+        assert_eq!(rt;
+            sent_for(alloc, target)?.as_str(),
+            wanted.as_str(),
+            "{target}"
+        );
+    }
+    Ok(())
+}
+
+#[test]
+fn a_part_of_255_bytes_and_64_parts_make_a_path(rt: HostRuntime) -> Result<(), Fail> {
+    let alloc = rt.alloc();
+    let part = "a".repeat(alloc, 255)?;
+    let long = format!(in alloc; "/{part}/")?;
+    let parts = "a/".repeat(alloc, 64)?;
+    let deep = format!(in alloc; "/{parts}")?;
+    assert!(rt; sent_for(alloc, long.as_str())?.starts_with("HTTP/1.1 201 "));
+    assert!(rt; sent_for(alloc, deep.as_str())?.starts_with("HTTP/1.1 201 "));
+    Ok(())
+}
+
+const THREE: &[u8] = b"POST /a/ HTTP/1.1\r\n\r\nPOST /b/ HTTP/1.1\r\n\r\nPOST /c/ HTTP/1.1\r\n\r\n";
+
+const TWO: &[u8] = b"POST /a/ HTTP/1.1\r\n\r\nPOST /a/b/ HTTP/1.1\r\nHost: x\r\n\r\n";
+
+#[test]
+fn input_in_pieces_of_each_size_is_answered_as_the_whole(rt: HostRuntime) -> Result<(), Fail> {
+    let alloc = rt.alloc();
+    let whole = run_once(alloc, TWO)?;
+    assert!(rt; whole.sent().ends_with(b"{\"name\":\"b\"}"));
+    for most in 1..=TWO.len() {
+        let source = source_of(alloc, TWO)?.with_most(most);
         let ran = run_over(alloc, source, empty_disk(alloc)?, [5_000_000_000; 3])?;
         assert_eq!(rt; ran.sent(), whole.sent(), "{most} bytes a read");
         assert_eq!(rt; ran.log()?, whole.log()?, "{most} bytes a read");
+        assert_eq!(rt; ran.status, 0, "{most} bytes a read");
     }
     Ok(())
 }
