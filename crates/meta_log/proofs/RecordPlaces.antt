@@ -1,12 +1,11 @@
 -- Places in a log of records.
 use Rattle.std.proofs.Common.{◌≡◌, ℕ, zero, suc, List, [], ◌∷◌, ◌++◌, take, drop, refl, sym, ◌∙◌, ap, subst, append_assoc, take-append-drop, Option, Some, None}
-use Rattle.std.specs.Prelude.{IfSome}
 use Rattle.weed_base.specs.Files.{Files}
 use Rattle.name_core.specs.declared.change.Record.{Record}
 use Rattle.name_core.specs.Log.{TimesRise}
 use Rattle.meta_log.specs.Held.{IsHeld}
 use Rattle.meta_log.specs.Records.{ReadAs, front_of_records}
-use Rattle.meta_log.specs.Kept.{front_of, IsKept, Keeps}
+use Rattle.meta_log.specs.Kept.{IsKept, Keeps}
 use Rattle.meta_log.specs.Places.{place_behind, HoldsPlace, IsNext}
 use Rattle.meta_log.specs.RecordPlaces.{LiesBetween, KeepsPlace, AreNext}
 use Rattle.meta_log.specs.declared.meta_log.MetaLog.{MetaLog}

@@ -1,6 +1,5 @@
 -- Records that are taken from a log in their order.
 use Rattle.std.proofs.Common.{◌≡◌, ℕ, zero, suc, ◌+◌, ◌-◌, ◌<◌, List, [], ◌∷◌, ◌++◌, length, take, drop, get_or, Option, Some, None, refl, sym, ap, ◌∙◌, subst, arith, append_assoc, length-append, inr}
-use Rattle.std.specs.Prelude.{IfSome}
 use Rattle.std.specs.FinMap.{empty}
 use Rattle.std.proofs.lemmas.List.{append-nil, take-append-drop, take_more, drop_more, nil_from_length}
 use Rattle.weed_base.specs.Files.{Files}
@@ -13,7 +12,7 @@ use Rattle.meta_log.specs.LogText.{IsAllowed}
 use Rattle.meta_log.specs.Places.{place_behind}
 use Rattle.meta_log.specs.Records.{ReadsAs, IsNoRecord, ReadAs}
 use Rattle.meta_log.specs.Kept.{IsKept, HoldsRecords, front_of}
-use Rattle.meta_log.specs.RecordPlaces.{LiesBetween, AreNext, KeepsPlace}
+use Rattle.meta_log.specs.RecordPlaces.{AreNext, KeepsPlace}
 use Rattle.meta_log.specs.declared.front.Front.{Front}
 use Rattle.meta_log.specs.declared.meta_log.MetaLog.{MetaLog}
 use Rattle.meta_log.specs.declared.place.Place.{Place}
@@ -21,7 +20,7 @@ use Rattle.meta_log.proofs.RecordLists.{ReadAs-unique}
 use Rattle.meta_log.proofs.RecordPlaces.{ReadAs-append, start_lies}
 use Rattle.meta_log.proofs.Unique.{text_unique}
 use Rattle.weed.specs.NameList.{names_of}
-use Rattle.weed.specs.Replay.{Takes, AreUnreadable, IsTaken, HoldsTaken, HoldsNames}
+use Rattle.weed.specs.Replay.{Takes, AreUnreadable, HoldsTaken, HoldsNames}
 use Rattle.weed.specs.declared.name_list.NameList.{NameList}
 
 -- What two lists of records leave
