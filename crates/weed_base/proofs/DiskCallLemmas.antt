@@ -1,12 +1,12 @@
 -- What a call of a memory disk makes of its files and images, by what it keeps.
-use Rattle.std.proofs.Common.{◌≡◌, ℕ, ◌≤◌, ◌⊎◌, inl, inr, List, length, Option, Some, None, Result, Ok, Err, MatchResult, OnOk, IsSome, sym, ap, ◌∙◌, subst, refl, arith, unwrap_or}
+use Rattle.std.proofs.Common.{◌≡◌, ℕ, inl, inr, List, length, Some, None, Result, Ok, Err, MatchResult, IsSome, sym, ap, ◌∙◌, subst, refl}
 use Rattle.std.specs.Option.{option_map_or}
 use Rattle.std.specs.FinMap.{get}
 use Rattle.weed_base.specs.Files.{Files, written, IsWithin, IsThere, MayWrite}
-use Rattle.weed_base.specs.Images.{NoMore, Only, Follows, Tears, Takes, where_there}
-use Rattle.weed_base.specs.History.{changed, reads, ImageAfter, Image}
+use Rattle.weed_base.specs.Images.{NoMore, Follows, Tears, where_there}
+use Rattle.weed_base.specs.History.{reads, ImageAfter, Image}
 use Rattle.weed_base.specs.DiskLaws.{tears-same, image-reads}
-use Rattle.weed_base.specs.MemForms.{DiskState, present, images, with_call, Makes, WritesOrTears, LeavesTorn}
+use Rattle.weed_base.specs.MemForms.{DiskState, present, images, with_call, Makes, WritesOrTears}
 use Rattle.weed_base.specs.declared.mem.change.Call.{Call}
 use Rattle.weed_base.specs.declared.mem.change.Change.{Change}
 use Rattle.weed_base.specs.declared.mem.change.Change.TheVariants.{Written, Torn, Synced}

@@ -1,20 +1,15 @@
 -- What a crash may leave of a memory disk, by its calls.
-use Rattle.std.proofs.Common.{◌≡◌, ℕ, ◌+◌, ◌<◌, ◌≤◌, ◌⊎◌, inl, inr, List, [], ◌∷◌, ◌++◌, length, take, drop, replicate, min, max, Option, Some, None, IsSome, nat_lt, if◌then◌else◌, Bool, true, false, sym, ap, ◌∙◌, subst, refl, arith, unwrap_or, length-append, append_assoc}
+use Rattle.std.proofs.Common.{◌≡◌, ℕ, ◌<◌, ◌≤◌, ◌⊎◌, inl, inr, List, [], ◌∷◌, length, replicate, nat_lt, if◌then◌else◌, true, false, ap, ◌∙◌, refl, arith}
 use Rattle.std.proofs.lemmas.Grind.{common_steps}
-use Rattle.std.specs.Option.{option_map_or}
-use Rattle.std.specs.FinMap.{get, insert}
-use Rattle.weed_base.specs.Files.{Files, written, cut_to, made, removed, renamed, spliced, content, IsThere}
-use Rattle.weed_base.specs.Images.{Tears, TearsThere, IsTornImage, Takes, where_there}
-use Rattle.weed_base.specs.History.{changed, reads, Leaves, ImageAfter, Image, ImageBefore, ImageSince, earlier, IsEarlier, filled, settled_as, picked_after, picked}
-use Rattle.weed_base.specs.MemForms.{DiskState, present, images, images_since, with_call}
-use Rattle.weed_base.specs.Told.{raised}
+use Rattle.weed_base.specs.Files.{Files}
+use Rattle.weed_base.specs.History.{changed, reads, Leaves, ImageAfter, Image, ImageBefore, earlier, IsEarlier, filled, settled_as, picked_after, picked}
+use Rattle.weed_base.specs.MemForms.{DiskState, present, images_since}
 use Rattle.weed_base.specs.declared.mem.change.Call.{Call}
 use Rattle.weed_base.specs.declared.mem.change.Change.{Change}
 use Rattle.weed_base.specs.declared.mem.change.Change.TheVariants.{Written, Torn, Cut, Made, Removed, Renamed, Synced}
 use Rattle.weed_base.specs.declared.mem.change.Pick.{Pick}
 use Rattle.weed_base.specs.declared.mem.change.Pick.TheVariants.{Old, New, Fill}
-use Rattle.std.proofs.lemmas.Option.{same_Some}
-use Rattle.weed_base.specs.DiskLaws.{tears-same, tears-written, leaves-changed, image-reads}
+use Rattle.weed_base.specs.DiskLaws.{tears-same, tears-written, leaves-changed}
 
 -- a change that was lost
 leaves-same : (change : Change) (files : Files) → Leaves change files files

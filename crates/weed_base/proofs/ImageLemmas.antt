@@ -1,8 +1,7 @@
 -- How a run goes on from what its calls leave.
-use Rattle.std.proofs.Common.{◌≡◌, ℕ, ◌≤◌, ◌⊎◌, inl, inr, sym, subst, refl, arith, ◌∙◌, Some}
+use Rattle.std.proofs.Common.{◌≡◌, ℕ, ◌≤◌, ◌⊎◌, inl, inr, sym, subst, refl, arith}
 use Rattle.weed_base.specs.Files.{Files}
 use Rattle.weed_base.specs.Images.{NoMore, Follows, Takes, Elapses, StandsStill, LeavesOnly, OnlyReads}
-use Rattle.weed_base.specs.Told.{raised}
 
 -- two runs, one behind the other
 pub leaves_both : {D : Type 0} (tick : D → ℕ) (since : D → ℕ → Files → Type 0) (old middle new : D) (P : Files → Type 0)

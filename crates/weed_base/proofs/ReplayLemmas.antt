@@ -1,5 +1,5 @@
 -- Calls made once more, the oldest first.
-use Rattle.std.proofs.Common.{◌≡◌, ℕ, suc, ◌+◌, ◌<◌, ◌≤◌, List, [], ◌∷◌, ◌++◌, length, take, drop, reverse, get_or, nat_lt, IsTrue, IsFalse, true, false, if◌then◌else◌, sym, ap, ◌∙◌, subst, refl, arith, add-one, append_assoc, append-nil}
+use Rattle.std.proofs.Common.{◌≡◌, ℕ, suc, ◌+◌, ◌<◌, ◌≤◌, List, [], ◌∷◌, ◌++◌, length, take, drop, reverse, get_or, true, false, sym, ap, ◌∙◌, subst, refl, arith, add-one, append_assoc, append-nil}
 use Rattle.std.proofs.lemmas.Grind.{common_steps}
 use Rattle.std.proofs.lemmas.List.{reverse-append, take-append-drop}
 use Rattle.std.proofs.Math.Seq.{take-suc, drop-cons}
@@ -9,7 +9,7 @@ use Rattle.weed_base.specs.declared.mem.change.Call.{Call}
 use Rattle.weed_base.specs.declared.mem.change.Change.{Change}
 use Rattle.weed_base.specs.declared.mem.change.Change.TheVariants.{Written, Torn, Cut, Made, Removed, Renamed, Synced}
 use Rattle.weed_base.specs.declared.mem.change.Pick.{Pick}
-use Rattle.weed_base.specs.declared.mem.change.Pick.TheVariants.{Old, New, Fill}
+use Rattle.weed_base.specs.declared.mem.change.Pick.TheVariants.{New}
 
 -- the newest of the first calls
 pub newest-of : (calls : List Call) (count rest : ℕ) (call : Call) → count ≡ rest + 1 → rest < length calls → call ≡ get_or calls rest call → reverse (take count calls) ≡ call ∷ reverse (take rest calls)

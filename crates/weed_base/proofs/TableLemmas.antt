@@ -1,5 +1,5 @@
 -- A tree map of names, read as the finite map of its entries.
-use Rattle.std.proofs.Common.{◌≡◌, ℕ, Bool, true, false, cond, nat_eq, List, [], ◌∷◌, map, Option, Some, None, Ordering, IsSome, IsSomeAnd, unwrap_or, length, ◌≤◌, MutBor, sym, refl, ap, ◌∙◌, subst, arith}
+use Rattle.std.proofs.Common.{◌≡◌, ℕ, Bool, true, false, cond, nat_eq, List, [], ◌∷◌, Option, Some, None, Ordering, IsSome, IsSomeAnd, unwrap_or, length, ◌≤◌, MutBor, sym, refl, ap, ◌∙◌, subst, arith}
 use Rattle.std.specs.Ordering.{nat_cmp, eq_by_cmp, is_eq}
 use Rattle.std.specs.declared.cmp.Ordering.TheVariants.{Less, Equal, Greater}
 use Rattle.std.specs.Cmp.{eq_by_cmp_equiv}

@@ -1,4 +1,4 @@
-use Rattle.std.proofs.Common.{◌≡◌, take, drop, reverse, sym, ap, ◌∙◌}
+use Rattle.std.proofs.Common.{take, drop, reverse, ap, ◌∙◌}
 use Rattle.std.proofs.lemmas.List.{take_rest}
 use Rattle.weed_base.specs.History.{earlier, picked, replayed}
 use Rattle.weed_base.specs.NamedBytes.{files_from}

@@ -1,4 +1,3 @@
-use Rattle.std.proofs.Common.{OnOk}
 use Rattle.weed_base.proofs.mem.table.FileTable.fill.Goals as goal
 
 pub returns-in-Written : goal.returns-in-Written
