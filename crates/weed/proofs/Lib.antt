@@ -1,11 +1,16 @@
 pub mod ListLemmas
 pub mod WrittenLemmas
+pub mod HandedLemmas
+pub mod SettlingLemmas
 pub mod ReadingLemmas
 pub mod HeadLemmas
 pub mod InboxLemmas
 pub mod NameLemmas
 pub mod ReplyLemmas
 pub mod SessionLemmas
+pub mod CrashLemmas
+pub mod SoundLemmas
+pub mod SurvivalLemmas
 pub mod FilerLemmas
 pub mod ReplayLemmas
 pub mod RunLemmas

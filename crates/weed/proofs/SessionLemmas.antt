@@ -1,27 +1,25 @@
 -- What a turn of a session leads to.
-use Rattle.std.proofs.Common.{◌≡◌, ◌≢◌, ◌⊎◌, ◌+◌, ◌<◌, ◌≤◌, ◌^◌, ℕ, zero, suc, Bool, true, false, List, [], ◌∷◌, ◌++◌, take, length, Option, Some, None, Result, Ok, Err, refl, sym, ap, ◌∙◌, subst, inl, inr, arith, add-one}
-use Rattle.std.specs.Prelude.{IfSome, IsSomeAnd, MatchResult}
+use Rattle.std.proofs.Common.{◌≡◌, ◌⊎◌, ℕ, Bool, true, false, List, [], ◌++◌, take, length, Option, Some, None, Result, Ok, Err, refl, sym, ap, ◌∙◌, subst, inl, inr}
+use Rattle.std.specs.Prelude.{IfSome, IsSomeAnd}
 use Rattle.std.specs.Option.{option_map}
 use Rattle.weed_base.specs.Told.{Consumes, IsAtEnd, Appends}
 use Rattle.weed_base.specs.Files.{Files}
-use Rattle.weed_base.specs.Moments.{first_moment, later_moments}
+use Rattle.weed_base.specs.Moments.{later_moments}
 use Rattle.name_core.specs.declared.change.Record.{Record}
 use Rattle.meta_log.specs.declared.meta_log.MetaLog.{MetaLog}
 use Rattle.meta_log.specs.declared.stem.Stem.{Stem}
 use Rattle.meta_log.specs.LogText.{IsAllowed, HasSegment}
 use Rattle.meta_log.specs.Kept.{IsKept, IsRecordLog}
-use Rattle.weed.specs.Request.{IsRequest}
 use Rattle.weed.specs.Inbox.{left_of, IsNoRequest, Finds}
-use Rattle.weed.specs.Written.{AppendsFront, WritesAll}
+use Rattle.weed.specs.Written.{WritesAll}
 use Rattle.weed.specs.declared.inbox.Head.{Head}
 use Rattle.weed.specs.declared.inbox.Head.TheVariants.{End, Request, NotYet}
 use Rattle.std.proofs.Math.Seq.{take-length}
 use Rattle.weed.specs.Filer.{IsFiled, TellsFiler, TellsEither}
-use Rattle.weed.specs.Reply.{Answering, IsReply, moments_after}
-use Rattle.weed.specs.Replied.{IsReadied, Gives}
-use Rattle.weed.specs.Session.{State, Requests, Replies, Lacks, Refuses, Answers, Turn, Turns, Rests, EndsAfter, Stands, most_turns, memory_answer, disk_answer, not_yet_answer}
-use Rattle.weed.specs.Tells.{Tells, Asking, Sends, Leads, Ends}
-use Rattle.weed.specs.declared.exit.Exit.{Exit}
+use Rattle.weed.specs.Reply.{moments_after}
+use Rattle.weed.specs.Replied.{Gives}
+use Rattle.weed.specs.Session.{State, Requests, Answers, Rests, Stands, memory_answer, disk_answer, not_yet_answer}
+use Rattle.weed.specs.Tells.{Tells, Asking, Sends, Leads}
 use Rattle.weed.specs.declared.exit.Exit.TheVariants as exit
 use Rattle.weed.specs.declared.plain_filer.PlainFiler.{PlainFiler}
 use Rattle.weed.specs.declared.reply.Reply.{Reply}
@@ -56,68 +54,73 @@ appended_told : (old new : Option (List ℕ)) (bytes more : List ℕ) → old �
 appended_told old new bytes more told grew = grew ∙ ap (option_map (λ written. written ++ more)) told
 
 -- The answer of a state was sent, and the session goes on or ends so.
-pub sent_leads : (old : State) (rest answer : List ℕ) (closes : Bool) (log : List Record) (moments : List ℕ)
+pub sent_leads : (old : State) (rest answer : List ℕ) (closes : Bool) (log : List Record) (moments : List ℕ) (Moves Tears : List Record → Type 0)
     (left sent sent' : Option (List ℕ)) (files : Option Files) (clock : Option (List ℕ)) (session : Session) (turned : Turned)
     → Answers old rest answer closes log moments
     → sent ≡ Some old.sent → Sends answer closes sent sent' turned
-    → left_of session.inbox.pending left ≡ Some rest → TellsFiler files session.filer log → clock ≡ Some moments
-    → Leads old left sent' files clock session turned
-sent_leads old rest answer closes log moments left sent sent' files clock session Open answers told sends left_is filer clock_is =
+    → left_of session.inbox.pending left ≡ Some rest → TellsFiler files session.filer log → clock ≡ Some moments → Moves log
+    → Leads old Moves Tears left sent' files clock session turned
+sent_leads old rest answer closes log moments Moves Tears left sent sent' files clock session Open answers told sends left_is filer clock_is moves =
     let new : State = record { left = rest; sent = old.sent ++ answer; log = log; moments = moments } in (
       new,
       record { left_is = left_is; sent_is = appended_told sent sent' old.sent answer told sends.0; filer = filer; moments_are = clock_is },
       (answer, subst (λ b. Answers old rest answer b log moments) sends.1 answers, refl),
+      moves,
     )
-sent_leads old rest answer closes log moments left sent sent' files clock session (Ended exit.Done) answers told sends left_is filer clock_is = (
+sent_leads old rest answer closes log moments Moves Tears left sent sent' files clock session (Ended exit.Done) answers told sends left_is filer clock_is moves = (
   record { left = rest; sent = old.sent ++ answer; log = log; moments = moments },
   record { sent_is = appended_told sent sent' old.sent answer told sends.0; log_is = filer_is_log files session.filer log filer; moments_are = clock_is },
   inr (answer, rest, subst (λ b. Answers old rest answer b log moments) sends.1 answers, refl),
+  moves,
 )
-sent_leads old rest answer closes log moments left sent sent' files clock session (Ended exit.WriteFault) answers told sends left_is filer clock_is = (
+sent_leads old rest answer closes log moments Moves Tears left sent sent' files clock session (Ended exit.WriteFault) answers told sends left_is filer clock_is moves = (
   record { left = rest; sent = old.sent ++ take sends.0 answer; log = log; moments = moments },
   record { sent_is = appended_told sent sent' old.sent (take sends.0 answer) told sends.1; log_is = filer_is_log files session.filer log filer; moments_are = clock_is },
   (answer, rest, closes, sends.0, answers, refl),
+  moves,
 )
-sent_leads old rest answer closes log moments left sent sent' files clock session (Ended exit.ReadFault) answers told sends left_is filer clock_is = absurd sends
-sent_leads old rest answer closes log moments left sent sent' files clock session (Ended exit.DiskFault) answers told sends left_is filer clock_is = absurd sends
-sent_leads old rest answer closes log moments left sent sent' files clock session (Ended (exit.BadWords place)) answers told sends left_is filer clock_is = absurd sends
-sent_leads old rest answer closes log moments left sent sent' files clock session (Ended (exit.Damaged file at)) answers told sends left_is filer clock_is = absurd sends
-sent_leads old rest answer closes log moments left sent sent' files clock session (Ended exit.Memory) answers told sends left_is filer clock_is = absurd sends
-sent_leads old rest answer closes log moments left sent sent' files clock session (Ended exit.TurnsSpent) answers told sends left_is filer clock_is = absurd sends
+sent_leads old rest answer closes log moments Moves Tears left sent sent' files clock session (Ended exit.ReadFault) answers told sends left_is filer clock_is moves = absurd sends
+sent_leads old rest answer closes log moments Moves Tears left sent sent' files clock session (Ended exit.DiskFault) answers told sends left_is filer clock_is moves = absurd sends
+sent_leads old rest answer closes log moments Moves Tears left sent sent' files clock session (Ended (exit.BadWords place)) answers told sends left_is filer clock_is moves = absurd sends
+sent_leads old rest answer closes log moments Moves Tears left sent sent' files clock session (Ended (exit.Damaged file at)) answers told sends left_is filer clock_is moves = absurd sends
+sent_leads old rest answer closes log moments Moves Tears left sent sent' files clock session (Ended exit.Memory) answers told sends left_is filer clock_is moves = absurd sends
+sent_leads old rest answer closes log moments Moves Tears left sent sent' files clock session (Ended exit.TurnsSpent) answers told sends left_is filer clock_is moves = absurd sends
 
 tells_some : (told : Option Files) (filer : PlainFiler) (records : List Record) → TellsFiler told filer records → (files : Files) × (told ≡ Some files) × IsFiled files filer records
 tells_some None filer records tells = absurd tells
 tells_some (Some files) filer records tells = (files, refl, tells)
 
 -- What a reply to a target gave, over told files and moments
-abbrev pub GivesTold : Option Files → Option (List ℕ) → PlainFiler → List ℕ → Option Files → Option (List ℕ) → PlainFiler → Result Reply ReplyFault → Type 0
-GivesTold files clock filer target files' clock' filer' result =
+abbrev pub GivesTold : (List Record → List Record → Type 0) → (List Record → List Record → Type 0) → Option Files → Option (List ℕ) → PlainFiler → List ℕ → Option Files → Option (List ℕ) → PlainFiler → Result Reply ReplyFault → Type 0
+GivesTold Moves Tears files clock filer target files' clock' filer' result =
     (told : Files) (moments : List ℕ) (records : List Record) → files ≡ Some told → clock ≡ Some moments → IsFiled told filer records
-    → Gives records moments target files' clock' filer' result
+    → Gives records moments target (Moves records) (Tears records) files' clock' filer' result
 
-gave : (old : State) (target : List ℕ) (files files' : Option Files) (clock clock' : Option (List ℕ)) (filer filer' : PlainFiler) (result : Result Reply ReplyFault)
-    → GivesTold files clock filer target files' clock' filer' result → TellsFiler files filer old.log → clock ≡ Some old.moments
-    → Gives old.log old.moments target files' clock' filer' result
-gave old target files files' clock clock' filer filer' result gives tells clock_is =
+gave : (Moves Tears : List Record → List Record → Type 0) (old : State) (target : List ℕ) (files files' : Option Files) (clock clock' : Option (List ℕ)) (filer filer' : PlainFiler) (result : Result Reply ReplyFault)
+    → GivesTold Moves Tears files clock filer target files' clock' filer' result → TellsFiler files filer old.log → clock ≡ Some old.moments
+    → Gives old.log old.moments target (Moves old.log) (Tears old.log) files' clock' filer' result
+gave Moves Tears old target files files' clock clock' filer filer' result gives tells clock_is =
     let told = tells_some files filer old.log tells in
     gives told.0 old.moments old.log told.1 clock_is told.2
 
 -- A request was answered by its reply.
-pub replied_leads : (old : State) (rest target : List ℕ) (left sent sent' sent'' : Option (List ℕ)) (files files' files'' : Option Files) (clock clock' : Option (List ℕ))
+pub replied_leads : (Moves Tears Sent Torn : List Record → List Record → Type 0) (old : State) (rest target : List ℕ) (left sent sent' sent'' : Option (List ℕ)) (files files' files'' : Option Files) (clock clock' : Option (List ℕ))
     (session session' : Session) (reply : Reply) (answer : List ℕ) (turned : Turned)
     → Requests old.left target rest
-    → GivesTold files clock session.filer target files' clock' session'.filer (Ok reply)
+    → GivesTold Moves Tears files clock session.filer target files' clock' session'.filer (Ok reply)
+    → ((before after : List Record) → Moves before after → Sent before after)
     → TellsFiler files session.filer old.log → clock ≡ Some old.moments
     → sent ≡ Some old.sent → sent' ≡ sent → files'' ≡ files' → answer ≡ reply.answer
     → Sends answer reply.closes sent' sent'' turned
     → left_of session'.inbox.pending left ≡ Some rest
-    → Leads old left sent'' files'' clock' session' turned
-replied_leads old rest target left sent sent' sent'' files files' files'' clock clock' session session' reply answer turned asked gives tells clock_is sent_is same_sent same_files answer_is sends left_is =
-    let given = gave old target files files' clock clock' session.filer session'.filer (Ok reply) gives tells clock_is in
+    → Leads old (Sent old.log) (Torn old.log) left sent'' files'' clock' session' turned
+replied_leads Moves Tears Sent Torn old rest target left sent sent' sent'' files files' files'' clock clock' session session' reply answer turned asked gives sending tells clock_is sent_is same_sent same_files answer_is sends left_is =
+    let given = gave Moves Tears old target files files' clock clock' session.filer session'.filer (Ok reply) gives tells clock_is in
     let says = given.0 in
-    sent_leads old rest answer reply.closes (old.log ++ says.added) (moments_after says old.moments) left sent' sent'' files'' clock' session' turned
+    sent_leads old rest answer reply.closes (old.log ++ says.added) (moments_after says old.moments) (Sent old.log) (Torn old.log) left sent' sent'' files'' clock' session' turned
     (inl (record { target = target; says = says; asked = asked; reply = given.1; answer_is = answer_is ∙ given.2.answer; closes_is = given.2.closes; log_is = refl; moments_are = refl }))
     (same_sent ∙ sent_is) sends left_is (subst (λ o. TellsFiler o session'.filer (old.log ++ says.added)) (sym same_files) given.3) given.4
+    (sending old.log (old.log ++ says.added) given.5)
 
 -- A request was answered 503.
 lacked_moments : (old : State) (clock : Option (List ℕ)) → ((clock ≡ Some old.moments) ⊎ (clock ≡ Some (later_moments old.moments)))
@@ -125,21 +128,23 @@ lacked_moments : (old : State) (clock : Option (List ℕ)) → ((clock ≡ Some 
 lacked_moments old clock (inl same) = (old.moments, same, inl refl)
 lacked_moments old clock (inr later) = (later_moments old.moments, later, inr refl)
 
-pub lacked_leads : (old : State) (rest target : List ℕ) (left sent sent' sent'' : Option (List ℕ)) (files files' files'' : Option Files) (clock clock' : Option (List ℕ))
+pub lacked_leads : (Moves Tears Sent Torn : List Record → List Record → Type 0) (old : State) (rest target : List ℕ) (left sent sent' sent'' : Option (List ℕ)) (files files' files'' : Option Files) (clock clock' : Option (List ℕ))
     (session session' : Session) (answer : List ℕ) (turned : Turned)
     → Requests old.left target rest
-    → GivesTold files clock session.filer target files' clock' session'.filer (Err Memory)
+    → GivesTold Moves Tears files clock session.filer target files' clock' session'.filer (Err Memory)
+    → ((before after : List Record) → Moves before after → Sent before after)
     → TellsFiler files session.filer old.log → clock ≡ Some old.moments
     → sent ≡ Some old.sent → sent' ≡ sent → files'' ≡ files' → answer ≡ memory_answer
     → Sends answer false sent' sent'' turned
     → left_of session'.inbox.pending left ≡ Some rest
-    → Leads old left sent'' files'' clock' session' turned
-lacked_leads old rest target left sent sent' sent'' files files' files'' clock clock' session session' answer turned asked gives tells clock_is sent_is same_sent same_files answer_is sends left_is =
-    let given = gave old target files files' clock clock' session.filer session'.filer (Err Memory) gives tells clock_is in
+    → Leads old (Sent old.log) (Torn old.log) left sent'' files'' clock' session' turned
+lacked_leads Moves Tears Sent Torn old rest target left sent sent' sent'' files files' files'' clock clock' session session' answer turned asked gives sending tells clock_is sent_is same_sent same_files answer_is sends left_is =
+    let given = gave Moves Tears old target files files' clock clock' session.filer session'.filer (Err Memory) gives tells clock_is in
     let at = lacked_moments old clock' given.1 in
-    sent_leads old rest answer false old.log at.0 left sent' sent'' files'' clock' session' turned
+    sent_leads old rest answer false old.log at.0 (Sent old.log) (Torn old.log) left sent' sent'' files'' clock' session' turned
     (inr (inl (record { target = target; asked = asked; answer_is = answer_is; closes_is = refl; log_is = refl; moments_are = at.2 })))
     (same_sent ∙ sent_is) sends left_is (subst (λ o. TellsFiler o session'.filer old.log) (sym same_files) given.0) at.1
+    (sending old.log old.log given.2)
 
 -- A request met a fault of the disk.
 written_front : {T E : Type 0} (old new : Option (List ℕ)) (result : Result T E) (bytes : List ℕ) → WritesAll old new result bytes → (count : ℕ) × Appends old new (take count bytes)
@@ -152,16 +157,17 @@ either_is_log None records more tells = absurd tells
 either_is_log (Some files) records more (inl log) = (records, log, inl refl)
 either_is_log (Some files) records more (inr log) = (records ++ more, log, inr refl)
 
-pub faulted_leads : {T E : Type 0} (old : State) (rest target : List ℕ) (left sent sent' sent'' : Option (List ℕ)) (files files' files'' : Option Files) (clock clock' : Option (List ℕ))
+pub faulted_leads : {T E : Type 0} (Moves Tears Sent Torn : List Record → List Record → Type 0) (old : State) (rest target : List ℕ) (left sent sent' sent'' : Option (List ℕ)) (files files' files'' : Option Files) (clock clock' : Option (List ℕ))
     (session session' : Session) (answer : List ℕ) (result : Result T E)
     → Requests old.left target rest
-    → GivesTold files clock session.filer target files' clock' session'.filer (Err DiskFault)
+    → GivesTold Moves Tears files clock session.filer target files' clock' session'.filer (Err DiskFault)
+    → ((before after : List Record) → Tears before after → Torn before after)
     → TellsFiler files session.filer old.log → clock ≡ Some old.moments
     → sent ≡ Some old.sent → sent' ≡ sent → files'' ≡ files' → answer ≡ disk_answer
     → WritesAll sent' sent'' result answer
-    → Leads old left sent'' files'' clock' session' (Ended exit.DiskFault)
-faulted_leads old rest target left sent sent' sent'' files files' files'' clock clock' session session' answer result asked gives tells clock_is sent_is same_sent same_files answer_is writes =
-    let given = gave old target files files' clock clock' session.filer session'.filer (Err DiskFault) gives tells clock_is in
+    → Leads old (Sent old.log) (Torn old.log) left sent'' files'' clock' session' (Ended exit.DiskFault)
+faulted_leads Moves Tears Sent Torn old rest target left sent sent' sent'' files files' files'' clock clock' session session' answer result asked gives tearing tells clock_is sent_is same_sent same_files answer_is writes =
+    let given = gave Moves Tears old target files files' clock clock' session.filer session'.filer (Err DiskFault) gives tells clock_is in
     let says = given.0 in
     let front = written_front sent' sent'' result answer writes in
     let log = either_is_log files' old.log says.added given.2 in
@@ -169,6 +175,7 @@ faulted_leads old rest target left sent sent' sent'' files files' files'' clock 
       record { left = rest; sent = old.sent ++ take front.0 answer; log = log.0; moments = moments_after says old.moments },
       record { sent_is = sent_now; log_is = subst (λ o. IsSomeAnd o (λ told. IsRecordLog told log.0)) (sym same_files) log.1; moments_are = given.3 },
       (target, rest, says, front.0, asked, given.1, ap (λ bytes. old.sent ++ take front.0 bytes) answer_is, log.2, refl),
+      (old.log ++ says.added, (target, rest, says, asked, given.1, refl), tearing old.log (old.log ++ says.added) given.4),
     )
 
 -- What was found in front of the input
@@ -190,22 +197,22 @@ asking_found old left left' sent files clock session session' head tells is find
       },
     )
 
-pub refused_leads : (old : State) (left left' sent sent' : Option (List ℕ)) (files files' : Option Files) (clock : Option (List ℕ)) (session session' : Session) (head : Head) (answer : List ℕ) (turned : Turned)
+pub refused_leads : (Moves Tears : List Record → Type 0) (old : State) (left left' sent sent' : Option (List ℕ)) (files files' : Option Files) (clock : Option (List ℕ)) (session session' : Session) (head : Head) (answer : List ℕ) (turned : Turned)
     → Tells left sent files clock session old → head ≡ NotYet
     → Finds head (left_of session.inbox.pending left) (left_of session'.inbox.pending left') session'.inbox.target
     → session'.filer ≡ session.filer → files' ≡ files → answer ≡ not_yet_answer
-    → Sends answer true sent sent' turned
-    → Leads old left' sent' files' clock session' turned
-refused_leads old left left' sent sent' files files' clock session session' head answer turned tells is finds same same_files answer_is sends =
+    → Sends answer true sent sent' turned → Moves old.log
+    → Leads old Moves Tears left' sent' files' clock session' turned
+refused_leads Moves Tears old left left' sent sent' files files' clock session session' head answer turned tells is finds same same_files answer_is sends moves =
     let found = subst (λ (h : Head). Finds h (left_of session.inbox.pending left) (left_of session'.inbox.pending left') session'.inbox.target) is finds in
-    sent_leads old old.left answer true old.log old.moments left' sent sent' files' clock session' turned
+    sent_leads old old.left answer true old.log old.moments Moves Tears left' sent sent' files' clock session' turned
     (inr (inr (record { asked = subst (λ o. IfSome o IsNoRequest) tells.left_is found.0; rest_is = refl; answer_is = answer_is; closes_is = refl; log_is = refl; moments_are = refl })))
     tells.sent_is sends (found.1 ∙ tells.left_is)
-    (subst (λ filer. TellsFiler files' filer old.log) (sym same) (subst (λ o. TellsFiler o session.filer old.log) (sym same_files) tells.filer)) tells.moments_are
+    (subst (λ filer. TellsFiler files' filer old.log) (sym same) (subst (λ o. TellsFiler o session.filer old.log) (sym same_files) tells.filer)) tells.moments_are moves
 
-rests : (old : State) (left left' sent : Option (List ℕ)) (files : Option Files) (clock : Option (List ℕ)) (session : Session)
+pub rests : (old : State) (left sent : Option (List ℕ)) (files : Option Files) (clock : Option (List ℕ)) (session : Session)
     → Tells left sent files clock session old → Stands sent files clock old
-rests old left left' sent files clock session tells = record { sent_is = tells.sent_is; log_is = filer_is_log files session.filer old.log tells.filer; moments_are = tells.moments_are }
+rests old left sent files clock session tells = record { sent_is = tells.sent_is; log_is = filer_is_log files session.filer old.log tells.filer; moments_are = tells.moments_are }
 
 same_rests : (old : State) → Rests old old
 same_rests old = record { sent = refl; log = refl; moments = refl }
@@ -214,35 +221,14 @@ at_end : (old : List ℕ) (told : Option (List ℕ)) → told ≡ Some old → I
 at_end old told is end =
     let none : Some old ≡ Some [] = sym is ∙ end ∙ ap (option_map (λ _. [])) is in some_same old [] none
 
-pub ended_leads : (old : State) (left left' left'' sent : Option (List ℕ)) (files : Option Files) (clock : Option (List ℕ)) (session session' : Session) (head : Head)
+pub ended_leads : (Moves Tears : List Record → Type 0) (old : State) (left left' left'' sent : Option (List ℕ)) (files : Option Files) (clock : Option (List ℕ)) (session session' : Session) (head : Head)
     → Tells left sent files clock session old → head ≡ End
-    → Finds head (left_of session.inbox.pending left) left'' session'.inbox.target
-    → Leads old left' sent files clock session' (Ended exit.Done)
-ended_leads old left left' left'' sent files clock session session' head tells is finds =
+    → Finds head (left_of session.inbox.pending left) left'' session'.inbox.target → Moves old.log
+    → Leads old Moves Tears left' sent files clock session' (Ended exit.Done)
+ended_leads Moves Tears old left left' left'' sent files clock session session' head tells is finds moves =
     let found = subst (λ (h : Head). Finds h (left_of session.inbox.pending left) left'' session'.inbox.target) is finds in
-    (old, rests old left left' sent files clock session tells, inl (at_end old.left (left_of session.inbox.pending left) tells.left_is found.0, same_rests old))
+    (old, rests old left sent files clock session tells, inl (at_end old.left (left_of session.inbox.pending left) tells.left_is found.0, same_rests old), moves)
 
-pub unread_leads : (old : State) (left left' sent : Option (List ℕ)) (files : Option Files) (clock : Option (List ℕ)) (session session' : Session)
-    → Tells left sent files clock session old → Leads old left' sent files clock session' (Ended exit.ReadFault)
-unread_leads old left left' sent files clock session session' tells = (old, rests old left left' sent files clock session tells, same_rests old)
-
--- No turn, and one more
-pub no_turns : (state : State) → Turns 0 state state
-unfolding Turns
-no_turns state = refl
-
-pub turns_more : (count : ℕ) (first middle last : State) → Turns count first middle → Turn middle last → Turns (count + 1) first last
-unfolding Turns
-turns_more count first middle last turns turn =
-    subst (λ n. Turns n first last) (sym (add-one count)) (middle, turns, turn)
-
--- How a turn ends is how the run of them ends.
-pub ends_after : (end : Exit) (count : ℕ) (first middle last : State) → count < most_turns → Turns count first middle → EndsAfter end middle last → Ends end first last
-ends_after exit.Done count first middle last few turns ends = (count, middle, few, turns, ends)
-ends_after exit.ReadFault count first middle last few turns ends = (count, middle, few, turns, ends)
-ends_after exit.WriteFault count first middle last few turns ends = (count, middle, few, turns, ends)
-ends_after exit.DiskFault count first middle last few turns ends = (count, middle, few, turns, ends)
-ends_after (exit.BadWords place) count first middle last few turns ends = absurd ends
-ends_after (exit.Damaged file at) count first middle last few turns ends = absurd ends
-ends_after exit.Memory count first middle last few turns ends = absurd ends
-ends_after exit.TurnsSpent count first middle last few turns ends = absurd ends
+pub unread_leads : (Moves Tears : List Record → Type 0) (old : State) (left left' sent : Option (List ℕ)) (files : Option Files) (clock : Option (List ℕ)) (session session' : Session)
+    → Tells left sent files clock session old → Moves old.log → Leads old Moves Tears left' sent files clock session' (Ended exit.ReadFault)
+unread_leads Moves Tears old left left' sent files clock session session' tells moves = (old, rests old left sent files clock session tells, same_rests old, moves)

@@ -55,3 +55,10 @@ Makes plan records told filer (Ok done) = IsAccepted plan × TellsFiler told fil
 Makes plan records told filer (Err (fault.Refused refusal)) = (plan ≡ Refused refusal) × TellsFiler told filer records
 Makes plan records told filer (Err fault.DiskFault) = TellsEither told records (added_by plan)
 Makes plan records told filer (Err fault.Memory) = TellsFiler told filer records
+
+-- What the same leaves of the images: `Moves` tells of them on the way to a log, and `Tears` where a call failed.
+abbrev pub MakesImages : Planned → (List Record → Type 0) → (List Record → Type 0) → List Record → Result (Unit {0}) MakeFault → Type 0
+MakesImages plan Moves Tears records (Ok done) = Moves (records ++ added_by plan)
+MakesImages plan Moves Tears records (Err (fault.Refused refusal)) = Moves records
+MakesImages plan Moves Tears records (Err fault.DiskFault) = Tears (records ++ added_by plan)
+MakesImages plan Moves Tears records (Err fault.Memory) = Moves records

@@ -9,10 +9,13 @@ pub mod Inbox
 pub mod Span
 pub mod Said
 pub mod NameList
+pub mod Settling
+pub mod Handed
 pub mod Filer
 pub mod Reply
 pub mod Replied
 pub mod Session
 pub mod Tells
+pub mod Crash
 pub mod Replay
 pub mod Run

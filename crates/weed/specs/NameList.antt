@@ -1,8 +1,7 @@
 -- The namespace that a list of changes stands for, and the room in it.
-use Rattle.std.specs.Prelude.{◌≡◌, ◌≢◌, ℕ, ◌-◌, List, [], Some, None, vec_capacity, vec_len}
-use Rattle.std.specs.FinMap.{empty, get}
-use Rattle.name_core.specs.declared.change.Change.{Change}
-use Rattle.name_core.specs.Namespace.{Namespace, step, after_changes}
+use Rattle.std.specs.Prelude.{ℕ, ◌-◌, vec_capacity, vec_len}
+use Rattle.std.specs.FinMap.{empty}
+use Rattle.name_core.specs.Namespace.{Namespace, after_changes}
 use Rattle.weed.specs.declared.name_list.NameList.{NameList}
 
 abbrev pub names_of : NameList → Namespace

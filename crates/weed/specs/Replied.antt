@@ -25,19 +25,20 @@ RepliesFault fault (Err DiskFault) = ⊥
 
 -- Over a log and at moments to come a request, whose answering is to be such, gave this: that answering, with
 -- its records in the log; want of memory, with nothing changed but that a moment may be gone; or a fault of the
--- disk, with its records in the log or not.
-abbrev pub GivesSuch : (Answering → Type 0) → List Record → List ℕ → Option Files → Option (List ℕ) → PlainFiler → Result Reply ReplyFault → Type 0
-GivesSuch Such log moments files later filer (Ok reply) =
-    (says : Answering) × Such says × IsReadied reply says × TellsFiler files filer (log ++ says.added) × (later ≡ Some (moments_after says moments))
-GivesSuch Such log moments files later filer (Err Memory) =
-    TellsFiler files filer log × ((later ≡ Some moments) ⊎ (later ≡ Some (later_moments moments)))
-GivesSuch Such log moments files later filer (Err DiskFault) =
-    (says : Answering) × Such says × TellsEither files log says.added × (later ≡ Some (moments_after says moments))
+-- disk, with its records in the log or not. `Moves` tells of the images on the way to a log, and `Tears` where a
+-- call failed.
+abbrev pub GivesSuch : (Answering → Type 0) → (List Record → Type 0) → (List Record → Type 0) → List Record → List ℕ → Option Files → Option (List ℕ) → PlainFiler → Result Reply ReplyFault → Type 0
+GivesSuch Such Moves Tears log moments files later filer (Ok reply) =
+    (says : Answering) × Such says × IsReadied reply says × TellsFiler files filer (log ++ says.added) × (later ≡ Some (moments_after says moments)) × Moves (log ++ says.added)
+GivesSuch Such Moves Tears log moments files later filer (Err Memory) =
+    TellsFiler files filer log × ((later ≡ Some moments) ⊎ (later ≡ Some (later_moments moments))) × Moves log
+GivesSuch Such Moves Tears log moments files later filer (Err DiskFault) =
+    (says : Answering) × Such says × TellsEither files log says.added × (later ≡ Some (moments_after says moments)) × Tears (log ++ says.added)
 
 -- The same of a request for a target
-abbrev pub Gives : List Record → List ℕ → List ℕ → Option Files → Option (List ℕ) → PlainFiler → Result Reply ReplyFault → Type 0
-Gives log moments target = GivesSuch (IsReply log (first_moment moments) target) log moments
+abbrev pub Gives : List Record → List ℕ → List ℕ → (List Record → Type 0) → (List Record → Type 0) → Option Files → Option (List ℕ) → PlainFiler → Result Reply ReplyFault → Type 0
+Gives log moments target Moves Tears = GivesSuch (IsReply log (first_moment moments) target) Moves Tears log moments
 
 -- The same of a request for a path
-abbrev pub GivesFor : List (List ℕ) → List Record → List ℕ → Option Files → Option (List ℕ) → PlainFiler → Result Reply ReplyFault → Type 0
-GivesFor path log moments = GivesSuch (λ says. says ≡ reply_to log (first_moment moments) path) log moments
+abbrev pub GivesFor : List (List ℕ) → List Record → List ℕ → (List Record → Type 0) → (List Record → Type 0) → Option Files → Option (List ℕ) → PlainFiler → Result Reply ReplyFault → Type 0
+GivesFor path log moments Moves Tears = GivesSuch (λ says. says ≡ reply_to log (first_moment moments) path) Moves Tears log moments

@@ -1,8 +1,7 @@
 -- What a request for a directory is answered, and what it adds to the log.
-use Rattle.std.specs.Prelude.{◌≡◌, ℕ, ◌-◌, ◌⊎◌, Bool, true, false, List, [], ◌∷◌, ◌++◌, length, take, codes, unwrap_or, None, Some, Option, MatchOption, Result, Ok, Err, ◌==◌, if◌then◌else◌}
+use Rattle.std.specs.Prelude.{◌≡◌, ℕ, ◌-◌, Bool, true, false, List, [], ◌∷◌, ◌++◌, length, take, codes, unwrap_or, None, MatchOption, ◌==◌, if◌then◌else◌}
 use Rattle.std.specs.List.{last_or}
-use Rattle.weed_base.specs.Files.{Files}
-use Rattle.weed_base.specs.Moments.{first_moment, later_moments}
+use Rattle.weed_base.specs.Moments.{later_moments}
 use Rattle.weed_base.specs.Path.{IsPath, text_of}
 use Rattle.weed_base.specs.PathFaults.{read_fault, path_fault_name}
 use Rattle.weed_base.specs.declared.path_fault.PathFault.{PathFault}

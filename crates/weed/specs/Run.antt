@@ -1,11 +1,10 @@
 -- A whole run: what is told of the outside before it and after it.
-use Rattle.std.specs.Prelude.{◌≡◌, ◌⊎◌, ℕ, List, [], Option, Some, IfSome, IsSomeAnd, ⊤}
+use Rattle.std.specs.Prelude.{◌≡◌, ◌⊎◌, ℕ, List, [], Option, Some, IfSome, ⊤}
 use Rattle.meta_log.specs.declared.fault.LogFault.{LogFault}
 use Rattle.meta_log.specs.declared.fault.LogFault.TheVariants as fault
 use Rattle.weed.specs.Filer.{IsFiledFrom}
 use Rattle.weed.specs.declared.session.Session.{Session}
 use Rattle.weed_base.specs.Files.{Files}
-use Rattle.meta_log.specs.Kept.{IsRecordLog}
 use Rattle.weed.specs.Session.{State, Rests, Stands}
 use Rattle.weed.specs.Tells.{Ends}
 use Rattle.weed.specs.declared.exit.Exit.{Exit}
@@ -39,8 +38,8 @@ IsEarly exit.WriteFault = ⊥
 IsEarly exit.TurnsSpent = ⊥
 IsEarly (exit.BadWords place) = ⊥
 
-abbrev pub EndsRun : Exit → State → State → Type 0
-EndsRun end first last = Ends end first last ⊎ (IsEarly end × Rests first last)
+abbrev pub EndsRun : Exit → State → List State → State → Type 0
+EndsRun end first path last = Ends end first path last ⊎ (IsEarly end × (path ≡ []) × Rests first last)
 
 -- Where it is damage, its file and place are so.
 abbrev pub IfDamagedExit : (List ℕ → ℕ → Type 0) → Exit → Type 0

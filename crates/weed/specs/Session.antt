@@ -1,5 +1,5 @@
 -- A session: the requests of an input, each answered over the log that the ones before it left.
-use Rattle.std.specs.Prelude.{◌≡◌, ◌≢◌, ℕ, zero, suc, ◌+◌, ◌^◌, ◌<◌, ◌≤◌, ◌⊎◌, Bool, true, false, List, [], ◌∷◌, ◌++◌, take, Option, Some, IsSomeAnd, codes}
+use Rattle.std.specs.Prelude.{◌≡◌, ℕ, ◌^◌, ◌⊎◌, ⊤, Bool, true, false, List, [], ◌∷◌, ◌++◌, take, Option, Some, IsSomeAnd, codes}
 use Rattle.weed_base.specs.Files.{Files}
 use Rattle.weed_base.specs.Moments.{first_moment, later_moments}
 use Rattle.name_core.specs.declared.change.Record.{Record}
@@ -77,10 +77,19 @@ Answers old rest answer closes log moments =
 abbrev pub Turn : State → State → Type 0
 Turn old new = (answer : List ℕ) × Answers old new.left answer false new.log new.moments × (new.sent ≡ old.sent ++ answer)
 
--- So many requests, each over what the ones before it left
-unfoldable pub Turns : ℕ → State → State → Type 0
-Turns zero old new = new ≡ old
-Turns (suc count) old new = (middle : State) × Turns count old middle × Turn middle new
+-- Each step, from a state to the first of a list and from there to the next, is so.
+abbrev pub Steps : (State → State → Type 0) → State → List State → Type 0
+Steps Step old [] = ⊤
+Steps Step old (new ∷ later) = Step old new × Steps Step new later
+
+-- Requests, each over what the ones before it left, with the state behind each of them
+abbrev pub Turns : State → List State → Type 0
+Turns first path = Steps Turn first path
+
+-- The last state of a path, the first one where it is empty
+abbrev pub last_of : State → List State → State
+last_of first [] = first
+last_of first (next ∷ later) = last_of next later
 
 -- Nothing more was sent, appended or asked for.
 pub record Rests (old last : State) : Type 0 where
@@ -88,7 +97,7 @@ pub record Rests (old last : State) : Type 0 where
   pub log : last.log ≡ old.log
   pub moments : last.moments ≡ old.moments
 
--- How a session ends where so many requests were answered whole:
+-- How a session ends behind a request that was answered whole, or at its start:
 abbrev pub EndsAfter : Exit → State → State → Type 0
 -- at the end of the input, or with an answer that closes
 EndsAfter exit.Done old last =
@@ -109,6 +118,13 @@ EndsAfter (exit.BadWords place) old last = ⊥
 EndsAfter (exit.Damaged file at) old last = ⊥
 EndsAfter exit.Memory old last = ⊥
 EndsAfter exit.TurnsSpent old last = ⊥
+
+-- The log that the last request of a session led to, or was to lead to where it met a fault of the disk
+abbrev pub LeadsTo : Exit → State → State → List Record → Type 0
+LeadsTo exit.DiskFault old last log =
+    (target rest : List ℕ) × (says : Answering) × Requests old.left target rest × IsReply old.log (first_moment old.moments) target says
+    × (log ≡ old.log ++ says.added)
+LeadsTo end old last log = log ≡ last.log
 
 -- The outside is told, and has this of a state: what was sent, the log, and the moments.
 pub record Stands (sent : Option (List ℕ)) (files : Option Files) (moments : Option (List ℕ)) (state : State) : Type 0 where

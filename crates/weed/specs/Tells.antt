@@ -1,11 +1,12 @@
 -- What a session and its outside tell between two requests.
-use Rattle.std.specs.Prelude.{◌≡◌, ℕ, ◌<◌, ◌⊎◌, Bool, true, false, List, Option, Some, MatchResult, ⊤}
+use Rattle.std.specs.Prelude.{◌≡◌, ℕ, ◌<◌, Bool, true, false, List, length, Option, Some, ⊤}
 use Rattle.weed_base.specs.Told.{Appends}
 use Rattle.weed_base.specs.Files.{Files}
 use Rattle.weed.specs.Written.{AppendsFront}
 use Rattle.weed.specs.Inbox.{left_of}
 use Rattle.weed.specs.Filer.{TellsFiler}
-use Rattle.weed.specs.Session.{State, Turn, Turns, Requests, EndsAfter, Stands, most_turns}
+use Rattle.name_core.specs.declared.change.Record.{Record}
+use Rattle.weed.specs.Session.{State, Turn, Turns, Requests, EndsAfter, LeadsTo, Stands, last_of, most_turns}
 use Rattle.weed.specs.declared.exit.Exit.{Exit}
 use Rattle.weed.specs.declared.exit.Exit.TheVariants as exit
 use Rattle.weed.specs.declared.session.Session.{Session}
@@ -39,15 +40,21 @@ Sends answer closes old new (Ended (exit.Damaged file at)) = ⊥
 Sends answer closes old new (Ended exit.Memory) = ⊥
 Sends answer closes old new (Ended exit.TurnsSpent) = ⊥
 
--- From a state a turn led to another one, or the session ended as it says.
-abbrev pub Leads : State → Option (List ℕ) → Option (List ℕ) → Option Files → Option (List ℕ) → Session → Turned → Type 0
-Leads old left sent files moments session Open = (new : State) × Tells left sent files moments session new × Turn old new
-Leads old left sent files moments session (Ended end) = (last : State) × Stands sent files moments last × EndsAfter end old last
+-- From a state a turn led to another one, or the session ended as it says. `Moves` tells what came of the disk on
+-- the way to a log, and `Tears` what came of it where a call failed.
+abbrev pub Leads : State → (List Record → Type 0) → (List Record → Type 0) → Option (List ℕ) → Option (List ℕ) → Option Files → Option (List ℕ) → Session → Turned → Type 0
+Leads old Moves Tears left sent files moments session Open =
+    (new : State) × Tells left sent files moments session new × Turn old new × Moves new.log
+Leads old Moves Tears left sent files moments session (Ended exit.DiskFault) =
+    (last : State) × Stands sent files moments last × EndsAfter exit.DiskFault old last
+    × ((log : List Record) × LeadsTo exit.DiskFault old last log × Tears log)
+Leads old Moves Tears left sent files moments session (Ended end) =
+    (last : State) × Stands sent files moments last × EndsAfter end old last × Moves last.log
 
 -- How a run of turns ended: after as many requests as a session answers, or before that.
-abbrev pub Ends : Exit → State → State → Type 0
-Ends exit.TurnsSpent first last = Turns most_turns first last
-Ends end first last = (count : ℕ) × (middle : State) × (count < most_turns) × Turns count first middle × EndsAfter end middle last
+abbrev pub Ends : Exit → State → List State → State → Type 0
+Ends exit.TurnsSpent first path last = Turns first path × (length path ≡ most_turns) × (last ≡ last_of first path)
+Ends end first path last = Turns first path × (length path < most_turns) × EndsAfter end (last_of first path) last
 
 -- The ends that a session has of itself: the log was opened, and the words were good.
 abbrev pub IsSessionEnd : Exit → Type 0

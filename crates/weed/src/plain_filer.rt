@@ -1,6 +1,6 @@
-ghost use Rattle.std.specs.Prelude.{◌≡◌, ◌≤◌, ◌<◌, false, List, length, IfOk, IfSome, IfErr, IsErrOf};
+ghost use Rattle.std.specs.Prelude.{◌≡◌, ◌≤◌, ◌<◌, false, List, length, Some, IfOk, IfSome, IfErr, IsErrOf};
 ghost use Rattle.weed_base.specs.Told.{IsCauseOf};
-ghost use Rattle.weed_base.specs.Files.{BothTold};
+ghost use Rattle.weed_base.specs.Files.{BothTold, Files};
 ghost use Rattle.name_core.specs.declared.change.Record.{Record};
 ghost use Rattle.name_core.specs.RecordText.{record_text, CanBeWritten};
 
@@ -57,9 +57,12 @@ impl PlainFiler {
     ghost use Rattle.meta_log.specs.Faults.{IfDamaged};
     ghost use Rattle.meta_log.specs.Making.{LeavesOthers};
     ghost use Rattle.meta_log.specs.declared.stem.Stem.TheVariants.{Log};
-    ghost use Rattle.meta_log.specs.Kept.{front_of, HoldsRecordLog, IsRecordDamage};
+    ghost use Rattle.weed_base.specs.Images.{LeavesOnly};
+    ghost use Rattle.meta_log.specs.Images.{HasLogOf, ImagesKeep, IsOwn};
+    ghost use Rattle.meta_log.specs.Kept.{front_of, HoldsRecordLog, IsRecordDamage, IsRecordLog};
     ghost use Rattle.meta_log.specs.Records.{ReadsAs};
-    ghost use Rattle.weed.specs.Filer.{IsFiled, IsFiledFrom, HoldsFiler, Makes, log_of};
+    ghost use Rattle.weed.specs.Filer.{IsFiled, IsFiledFrom, HoldsFiler, Makes, MakesImages, log_of};
+    ghost use Rattle.weed.specs.Settling.{Settling, Tearing};
 
     /// Opens the log of a disk, and folds its records into names. Makes the log's first segment where none
     /// counts. Where the files are no log of records, `Damaged` names the first file and place to blame.
@@ -73,6 +76,13 @@ impl PlainFiler {
         // Whatever comes of it, the records that the disk holds stay.
         ensures kept { (records : List Record) → HoldsRecordLog (D.files disk.old) records → HoldsRecordLog (D.files disk.new) records }
         ensures others { BothTold (LeavesOthers Log) (D.files disk.old) (D.files disk.new) }
+
+        // A crash at any moment leaves the records of an image that was there before; after `Ok` those that
+        // the disk has. A disk of one's own is never damaged.
+        ensures atomic { (files : Files) → D.files disk.old ≡ Some files → LeavesOnly D.tick D.image_since disk.old disk.new (HasLogOf (D.images disk.old)) }
+        ensures settled { IfOk result (λ _. (files : Files) (records : List Record) → D.files disk.old ≡ Some files → IsRecordLog files records → ImagesKeep (D.images disk.new) records) }
+        ensures own { (files : Files) → D.files disk.old ≡ Some files → IsOwn (D.images disk.old) → IfErr result (IfDamaged (λ _ _. ⊥)) }
+
         ensures cause { IsCauseOf (D.faults disk.old) (D.faults disk.new) (IsErrOf result LogFault.DiskFault) }
         ensures sent { (D.sent disk.new ≡ D.sent disk.old) × (D.send_faults disk.new ≡ D.send_faults disk.old) }
     {
@@ -93,6 +103,9 @@ impl PlainFiler {
         requires { (records : List Record) × HoldsFiler (D.files disk.old) self.old records }
         ensures made { IfSome (D.files disk.old) (λ files. (records : List Record) → IsFiled files self.old records
             → Makes (plan_of (fold records) (MakeDir path) moment (last_time records)) records (D.files disk.new) self.new result) }
+        ensures images { (files : Files) (records : List Record) → D.files disk.old ≡ Some files → IsFiled files self.old records
+            → MakesImages (plan_of (fold records) (MakeDir path) moment (last_time records))
+            (Settling D.tick D.images D.image_since disk.old disk.new records) (Tearing D.tick D.images D.image_since disk.old disk.new records) records result }
         ensures cause { IsCauseOf (D.faults disk.old) (D.faults disk.new) (IsErrOf result MakeFault.DiskFault) }
         ensures held { ¬ (IsErrOf result MakeFault.DiskFault) → (records : List Record) × HoldsFiler (D.files disk.new) self.new records }
         ensures sent { (D.sent disk.new ≡ D.sent disk.old) × (D.send_faults disk.new ≡ D.send_faults disk.old) }
@@ -122,6 +135,9 @@ impl PlainFiler {
         requires later { (front_of (log_of self.old)).time < planned.time }
         ensures made { IfSome (D.files disk.old) (λ files. (records : List Record) → IsFiled files self.old records
             → Makes (Recorded planned) records (D.files disk.new) self.new result) }
+        ensures images { (files : Files) (records : List Record) → D.files disk.old ≡ Some files → IsFiled files self.old records
+            → MakesImages (Recorded planned) (Settling D.tick D.images D.image_since disk.old disk.new records)
+            (Tearing D.tick D.images D.image_since disk.old disk.new records) records result }
         ensures cause { IsCauseOf (D.faults disk.old) (D.faults disk.new) (IsErrOf result MakeFault.DiskFault) }
         ensures held { ¬ (IsErrOf result MakeFault.DiskFault) → (records : List Record) × HoldsFiler (D.files disk.new) self.new records }
         ensures sent { (D.sent disk.new ≡ D.sent disk.old) × (D.send_faults disk.new ≡ D.send_faults disk.old) }

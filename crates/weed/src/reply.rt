@@ -6,6 +6,7 @@ ghost use Rattle.weed.specs.Reply.{path_text, bad_path, refusal_text, last_part}
 ghost use Rattle.weed.specs.Answer.{created_text, refused_text};
 ghost use Rattle.weed.specs.Filer.{IsFiled, HoldsFiler};
 ghost use Rattle.weed.specs.Replied.{Gives, GivesFor, RepliesFault};
+ghost use Rattle.weed.specs.Settling.{Settling, Tearing};
 ghost use Rattle.weed.specs.declared.answer.Status.TheVariants.{Conflict};
 
 use crate::answer::{Status, created, refused};
@@ -118,7 +119,9 @@ pub fn reply_to_target<D: Disk, C: Clock>(
 ) -> Result<Reply, ReplyFault>
     requires { (records : List Record) × HoldsFiler (D.files disk.old) filer.old records }
     ensures gives { (files : Files) (moments : List ℕ) (records : List Record) → D.files disk.old ≡ Some files → C.moments clock.old ≡ Some moments
-        → IsFiled files filer.old records → Gives records moments target.now (D.files disk.new) (C.moments clock.new) filer.new result }
+        → IsFiled files filer.old records
+        → Gives records moments target.now (Settling D.tick D.images D.image_since disk.old disk.new records) (Tearing D.tick D.images D.image_since disk.old disk.new records)
+        (D.files disk.new) (C.moments clock.new) filer.new result }
     ensures held { ¬ (IsErrOf result ReplyFault.DiskFault) → (records : List Record) × HoldsFiler (D.files disk.new) filer.new records }
     ensures cause { IsCauseOf (D.faults disk.old) (D.faults disk.new) (IsErrOf result ReplyFault.DiskFault) }
     ensures sent { (D.sent disk.new ≡ D.sent disk.old) × (D.send_faults disk.new ≡ D.send_faults disk.old) }
@@ -139,7 +142,9 @@ fn reply_to_path<D: Disk, C: Clock>(
 ) -> Result<Reply, ReplyFault>
     requires { (records : List Record) × HoldsFiler (D.files disk.old) filer.old records }
     ensures gives { (files : Files) (moments : List ℕ) (records : List Record) → D.files disk.old ≡ Some files → C.moments clock.old ≡ Some moments
-        → IsFiled files filer.old records → GivesFor path records moments (D.files disk.new) (C.moments clock.new) filer.new result }
+        → IsFiled files filer.old records
+        → GivesFor path records moments (Settling D.tick D.images D.image_since disk.old disk.new records) (Tearing D.tick D.images D.image_since disk.old disk.new records)
+        (D.files disk.new) (C.moments clock.new) filer.new result }
     ensures held { ¬ (IsErrOf result ReplyFault.DiskFault) → (records : List Record) × HoldsFiler (D.files disk.new) filer.new records }
     ensures cause { IsCauseOf (D.faults disk.old) (D.faults disk.new) (IsErrOf result ReplyFault.DiskFault) }
     ensures sent { (D.sent disk.new ≡ D.sent disk.old) × (D.send_faults disk.new ≡ D.send_faults disk.old) }

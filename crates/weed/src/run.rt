@@ -1,11 +1,15 @@
-ghost use Rattle.std.specs.Prelude.{◌≡◌, ◌↔◌, ◌≤◌, List, ℕ, Ok, Err, IfOk, IfErr, IfSome, IsErrOf};
+ghost use Rattle.std.specs.Prelude.{◌≡◌, ◌≢◌, ◌↔◌, ◌≤◌, List, ℕ, length, Ok, Err, Some, IfOk, IfErr, IfSome, IsErrOf};
 ghost use Rattle.weed_base.specs.Told.{Rose, IsCauseOf};
-ghost use Rattle.weed_base.specs.Files.{BothTold};
+ghost use Rattle.weed_base.specs.Sent.{bytes_sent};
+ghost use Rattle.weed_base.specs.Files.{Files, BothTold};
+ghost use Rattle.weed_base.specs.Images.{LeavesOnly, OnlyReads};
 ghost use Rattle.name_core.specs.declared.change.Record.{Record};
-ghost use Rattle.meta_log.specs.Kept.{HoldsRecordLog, IsRecordDamage};
+ghost use Rattle.meta_log.specs.Images.{HasLogOf, ImagesKeep, IsOwn};
+ghost use Rattle.meta_log.specs.Kept.{HoldsRecordLog, IsRecordDamage, IsRecordLog};
 ghost use Rattle.meta_log.specs.Making.{LeavesOthers};
 ghost use Rattle.meta_log.specs.declared.stem.Stem.TheVariants.{Log};
 ghost use Rattle.weed.specs.Words.{order_of};
+ghost use Rattle.weed.specs.Crash.{Survives};
 ghost use Rattle.weed.specs.Filer.{HoldsFiler};
 ghost use Rattle.weed.specs.Session.{State, Stands, Turns, most_turns};
 ghost use Rattle.weed.specs.Run.{Starts, Begins, EndsRun, IsEarly, IfDamagedExit, IsDoneOrShort, exit_of_fault};
@@ -63,19 +67,22 @@ pub fn weed<S: Source, H: Host, C: Clock>(
     world: World<S, H, C>,
 ) -> (Exit, World<S, H, C>)
     ensures answers { (dir : List ℕ) (first : State) → order_of words.now ≡ Ok dir
-        → Starts (S.left world.source) (H.sent world.host) (H.files world.host) (C.moments world.clock) first
-        → (last : State) × Stands (H.sent result.1.host) (H.files result.1.host) (C.moments result.1.clock) last × EndsRun result.0 first last }
+        → Starts (S.left world.source) (bytes_sent (H.sent world.host)) (H.files world.host) (C.moments world.clock) first
+        → (path : List State) × (last : State) × Stands (bytes_sent (H.sent result.1.host)) (H.files result.1.host) (C.moments result.1.clock) last
+        × EndsRun result.0 first path last
+        × (IsOwn (H.images world.host) → Survives H.tick H.images H.image_since H.sent world.host result.1.host result.0 first path last) }
 
     // Where nothing of the outside failed, the log is one, and fewer than 2^40 requests are answered without
     // closing, the run is done, or memory was wanting.
     ensures complete { (dir : List ℕ) (first : State) → order_of words.now ≡ Ok dir
-        → Starts (S.left world.source) (H.sent world.host) (H.files world.host) (C.moments world.clock) first
+        → Starts (S.left world.source) (bytes_sent (H.sent world.host)) (H.files world.host) (C.moments world.clock) first
         → ¬ Rose (H.faults world.host) (H.faults result.1.host) → ¬ Rose (S.faults world.source) (S.faults result.1.source)
-        → ¬ Rose (H.send_faults world.host) (H.send_faults result.1.host) → ((last : State) → ¬ Turns most_turns first last)
+        → ¬ Rose (H.send_faults world.host) (H.send_faults result.1.host) → ((path : List State) → Turns first path → length path ≢ most_turns)
         → IsDoneOrShort result.0 }
     ensures words { (place : ℕ) → (result.0 ≡ Exit.BadWords place) ↔ (order_of words.now ≡ Err place) }
     ensures untouched { (place : ℕ) → order_of words.now ≡ Err place → result.1 ≡ world }
     ensures damaged { IfDamagedExit (λ file at. IfSome (H.files world.host) (λ files. IsRecordDamage files file at) × (H.files result.1.host ≡ H.files world.host)) result.0 }
+    ensures own { (files : Files) → H.files world.host ≡ Some files → IsOwn (H.images world.host) → IfDamagedExit (λ _ _. ⊥) result.0 }
     ensures disk { result.0 ≡ Exit.DiskFault → Rose (H.faults world.host) (H.faults result.1.host) }
     ensures read { result.0 ≡ Exit.ReadFault → Rose (S.faults world.source) (S.faults result.1.source) }
     ensures write { result.0 ≡ Exit.WriteFault → Rose (H.send_faults world.host) (H.send_faults result.1.host) }
@@ -96,10 +103,13 @@ fn filer_once<S: Source, H: Host, C: Clock>(
     dir: &[u8],
     world: &mut World<S, H, C>,
 ) -> Exit
-    ensures answers { (first : State) → Starts (S.left world.old.source) (H.sent world.old.host) (H.files world.old.host) (C.moments world.old.clock) first
-        → (last : State) × Stands (H.sent world.new.host) (H.files world.new.host) (C.moments world.new.clock) last × EndsRun result first last }
+    ensures answers { (first : State) → Starts (S.left world.old.source) (bytes_sent (H.sent world.old.host)) (H.files world.old.host) (C.moments world.old.clock) first
+        → (path : List State) × (last : State) × Stands (bytes_sent (H.sent world.new.host)) (H.files world.new.host) (C.moments world.new.clock) last
+        × EndsRun result first path last
+        × (IsOwn (H.images world.old.host) → Survives H.tick H.images H.image_since H.sent world.old.host world.new.host result first path last) }
     ensures good_words { (place : ℕ) → result ≡ Exit.BadWords place → ⊥ }
     ensures damaged { IfDamagedExit (λ file at. IfSome (H.files world.old.host) (λ files. IsRecordDamage files file at) × (H.files world.new.host ≡ H.files world.old.host)) result }
+    ensures own { (files : Files) → H.files world.old.host ≡ Some files → IsOwn (H.images world.old.host) → IfDamagedExit (λ _ _. ⊥) result }
     ensures disk { result ≡ Exit.DiskFault → Rose (H.faults world.old.host) (H.faults world.new.host) }
     ensures read { result ≡ Exit.ReadFault → Rose (S.faults world.old.source) (S.faults world.new.source) }
     ensures write { result ≡ Exit.WriteFault → Rose (H.send_faults world.old.host) (H.send_faults world.new.host) }
@@ -118,6 +128,9 @@ fn begin<H: Host>(alloc: Global, dir: &[u8], host: &mut H) -> Result<Session, Ex
     ensures damaged { IfErr result (IfDamagedExit (λ file at. IfSome (H.files host.old) (λ files. IsRecordDamage files file at) × (H.files host.new ≡ H.files host.old))) }
     ensures kept { (records : List Record) → HoldsRecordLog (H.files host.old) records → HoldsRecordLog (H.files host.new) records }
     ensures others { BothTold (LeavesOthers Log) (H.files host.old) (H.files host.new) }
+    ensures atomic { (files : Files) → H.files host.old ≡ Some files → LeavesOnly H.tick H.image_since host.old host.new (HasLogOf (H.images host.old)) }
+    ensures settled { IfOk result (λ _. (files : Files) (records : List Record) → H.files host.old ≡ Some files → IsRecordLog files records → ImagesKeep (H.images host.new) records) }
+    ensures own { (files : Files) → H.files host.old ≡ Some files → IsOwn (H.images host.old) → IfErr result (IfDamagedExit (λ _ _. ⊥)) }
     ensures cause { IsCauseOf (H.faults host.old) (H.faults host.new) (IsErrOf result Exit.DiskFault) }
     ensures sent { (H.sent host.new ≡ H.sent host.old) × (H.send_faults host.new ≡ H.send_faults host.old) }
 {
@@ -137,6 +150,7 @@ fn attach<H: Host>(alloc: Global, dir: &[u8], host: &mut H) -> Result<(), Exit>
     ensures early { IfErr result IsEarly }
     ensures sound { IfErr result (IfDamagedExit (λ _ _. ⊥)) }
     ensures files { H.files host.new ≡ H.files host.old }
+    ensures still { OnlyReads H.tick H.images H.image_since host.old host.new }
     ensures cause { IsCauseOf (H.faults host.old) (H.faults host.new) (IsErrOf result Exit.DiskFault) }
     ensures sent { (H.sent host.new ≡ H.sent host.old) × (H.send_faults host.new ≡ H.send_faults host.old) }
 {

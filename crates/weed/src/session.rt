@@ -1,8 +1,14 @@
 ghost use Rattle.std.specs.Prelude.{◌≡◌, ◌≤◌, List, ℕ};
 ghost use Rattle.weed_base.specs.Told.{Rose};
+ghost use Rattle.weed_base.specs.Images.{StandsStill};
+ghost use Rattle.weed_base.specs.Sent.{bytes_sent};
 ghost use Rattle.name_core.specs.declared.change.Record.{Record};
+ghost use Rattle.meta_log.specs.Images.{ImagesKeep};
+ghost use Rattle.weed.specs.Crash.{Withstands};
 ghost use Rattle.weed.specs.Filer.{HoldsFiler};
+ghost use Rattle.weed.specs.Handed.{SendsAt};
 ghost use Rattle.weed.specs.Session.{State, Stands};
+ghost use Rattle.weed.specs.Settling.{Settling, Tearing};
 ghost use Rattle.weed.specs.Tells.{Sends, Tells, Asking, Leads, Ends, IsTurnEnd, IsSessionEnd};
 
 use crate::exit::Exit;
@@ -29,7 +35,9 @@ pub enum Turned {
 
 /// Sends an answer, after which the session goes on unless it closes.
 fn send_answer<H: Host>(host: &mut H, answer: &[u8], closes: bool) -> Turned
-    ensures sends { Sends answer.now closes (H.sent host.old) (H.sent host.new) result }
+    ensures sends { Sends answer.now closes (bytes_sent (H.sent host.old)) (bytes_sent (H.sent host.new)) result }
+    ensures pieces { SendsAt (H.tick host.new) (H.sent host.old) (H.sent host.new) }
+    ensures still { StandsStill (H.tick host.old) (H.tick host.new) (H.image_since host.old) (H.image_since host.new) (H.images host.old) (H.images host.new) }
     ensures later { H.send_faults host.old ≤ H.send_faults host.new }
     ensures cause { result ≡ Turned.Ended Exit.WriteFault → Rose (H.send_faults host.old) (H.send_faults host.new) }
     ensures files { H.files host.new ≡ H.files host.old }
@@ -58,8 +66,9 @@ pub fn run<S: Source, H: Host, C: Clock>(
     world: &mut World<S, H, C>,
 ) -> Exit
     requires { (records : List Record) × HoldsFiler (H.files world.old.host) session.old.filer records }
-    ensures ends { (first : State) → Tells (S.left world.old.source) (H.sent world.old.host) (H.files world.old.host) (C.moments world.old.clock) session.old first
-        → (last : State) × Stands (H.sent world.new.host) (H.files world.new.host) (C.moments world.new.clock) last × Ends result first last }
+    ensures ends { (first : State) → Tells (S.left world.old.source) (bytes_sent (H.sent world.old.host)) (H.files world.old.host) (C.moments world.old.clock) session.old first
+        → (path : List State) × (last : State) × Stands (bytes_sent (H.sent world.new.host)) (H.files world.new.host) (C.moments world.new.clock) last × Ends result first path last
+        × (ImagesKeep (H.images world.old.host) first.log → Withstands H.tick H.images H.image_since H.sent world.old.host world.new.host result first path last) }
     ensures disk { result ≡ Exit.DiskFault → Rose (H.faults world.old.host) (H.faults world.new.host) }
     ensures read { result ≡ Exit.ReadFault → Rose (S.faults world.old.source) (S.faults world.new.source) }
     ensures write { result ≡ Exit.WriteFault → Rose (H.send_faults world.old.host) (H.send_faults world.new.host) }
@@ -82,8 +91,10 @@ fn turn<S: Source, H: Host, C: Clock>(
     world: &mut World<S, H, C>,
 ) -> Turned
     requires { (records : List Record) × HoldsFiler (H.files world.old.host) session.old.filer records }
-    ensures leads { (old : State) → Tells (S.left world.old.source) (H.sent world.old.host) (H.files world.old.host) (C.moments world.old.clock) session.old old
-        → Leads old (S.left world.new.source) (H.sent world.new.host) (H.files world.new.host) (C.moments world.new.clock) session.new result }
+    ensures leads { (old : State) → Tells (S.left world.old.source) (bytes_sent (H.sent world.old.host)) (H.files world.old.host) (C.moments world.old.clock) session.old old
+        → Leads old (Settling H.tick H.images H.image_since world.old.host world.new.host old.log) (Tearing H.tick H.images H.image_since world.old.host world.new.host old.log)
+        (S.left world.new.source) (bytes_sent (H.sent world.new.host)) (H.files world.new.host) (C.moments world.new.clock) session.new result }
+    ensures pieces { SendsAt (H.tick world.new.host) (H.sent world.old.host) (H.sent world.new.host) }
     ensures held { result ≡ Turned.Open → (records : List Record) × HoldsFiler (H.files world.new.host) session.new.filer records }
     ensures disk { result ≡ Turned.Ended Exit.DiskFault → Rose (H.faults world.old.host) (H.faults world.new.host) }
     ensures read { result ≡ Turned.Ended Exit.ReadFault → Rose (S.faults world.old.source) (S.faults world.new.source) }
@@ -108,8 +119,10 @@ fn answer_request<S: Source, H: Host, C: Clock>(
     world: &mut World<S, H, C>,
 ) -> Turned
     requires { (records : List Record) × HoldsFiler (H.files world.old.host) session.old.filer records }
-    ensures leads { (old : State) (rest : List ℕ) → Asking old rest (S.left world.old.source) (H.sent world.old.host) (H.files world.old.host) (C.moments world.old.clock) session.old
-        → Leads old (S.left world.new.source) (H.sent world.new.host) (H.files world.new.host) (C.moments world.new.clock) session.new result }
+    ensures leads { (old : State) (rest : List ℕ) → Asking old rest (S.left world.old.source) (bytes_sent (H.sent world.old.host)) (H.files world.old.host) (C.moments world.old.clock) session.old
+        → Leads old (Settling H.tick H.images H.image_since world.old.host world.new.host old.log) (Tearing H.tick H.images H.image_since world.old.host world.new.host old.log)
+        (S.left world.new.source) (bytes_sent (H.sent world.new.host)) (H.files world.new.host) (C.moments world.new.clock) session.new result }
+    ensures pieces { SendsAt (H.tick world.new.host) (H.sent world.old.host) (H.sent world.new.host) }
     ensures held { result ≡ Turned.Open → (records : List Record) × HoldsFiler (H.files world.new.host) session.new.filer records }
     ensures disk { result ≡ Turned.Ended Exit.DiskFault → Rose (H.faults world.old.host) (H.faults world.new.host) }
     ensures read { result ≡ Turned.Ended Exit.ReadFault → ⊥ }

@@ -1,6 +1,9 @@
 ghost use Rattle.std.specs.Prelude.{◌≡◌};
 ghost use Rattle.std.specs.List.{flat_map};
 ghost use Rattle.weed_base.specs.Told.{HasCause};
+ghost use Rattle.weed_base.specs.Images.{StandsStill};
+ghost use Rattle.weed_base.specs.Sent.{bytes_sent};
+ghost use Rattle.weed.specs.Handed.{SendsAt};
 ghost use Rattle.weed.specs.Written.{WritesAll};
 
 use thiserror::Error;
@@ -39,8 +42,10 @@ pub fn write_pieces<K: Sink>(to: &mut K, pieces: &[&[u8]]) -> Result<(), WriteFa
 
 /// Sends all the bytes, or first ones of them where a send fails.
 pub fn send_all<H: Host>(host: &mut H, bytes: &[u8]) -> Result<(), WriteFault>
-    ensures bytes { WritesAll (H.sent host.old) (H.sent host.new) result bytes.now }
+    ensures bytes { WritesAll (bytes_sent (H.sent host.old)) (bytes_sent (H.sent host.new)) result bytes.now }
     ensures cause { HasCause (H.send_faults host.old) (H.send_faults host.new) result }
+    ensures pieces { SendsAt (H.tick host.new) (H.sent host.old) (H.sent host.new) }
+    ensures still { StandsStill (H.tick host.old) (H.tick host.new) (H.image_since host.old) (H.image_since host.new) (H.images host.old) (H.images host.new) }
     ensures files { H.files host.new ≡ H.files host.old }
     ensures faults { H.faults host.new ≡ H.faults host.old }
 {

@@ -1,4 +1,4 @@
-use Rattle.std.proofs.Common.{◌≡◌, Some, None, ap, sym, ◌∙◌}
+use Rattle.std.proofs.Common.{sym, ◌∙◌}
 use Rattle.weed.proofs.NameLemmas.{last_says, last_is_silent, nothing_left}
 use Rattle.weed.proofs.name_list.newest.Goals as goal
 

@@ -1,4 +1,4 @@
-use Rattle.std.proofs.Common.{◌≡◌, Bool, true, false, Some, None, ap, sym, ◌∙◌, subst}
+use Rattle.std.proofs.Common.{◌≡◌, true, false, Some, None, sym, ◌∙◌, subst}
 use Rattle.std.specs.FinMap.{get}
 use Rattle.name_core.specs.declared.change.Change.{Change}
 use Rattle.name_core.specs.Namespace.{Namespace, step}

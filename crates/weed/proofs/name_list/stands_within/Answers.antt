@@ -1,4 +1,4 @@
-use Rattle.std.proofs.Common.{◌≡◌, Bool, true, false, cond, ap, sym, ◌∙◌}
+use Rattle.std.proofs.Common.{true, cond, ap, sym, ◌∙◌}
 use Rattle.weed.proofs.NameLemmas.{within_is}
 use Rattle.weed.proofs.name_list.stands_within.Goals as goal
 

@@ -1,8 +1,9 @@
-use Rattle.std.proofs.Common.{◌≡◌, ◌⊎◌, inl}
-use Rattle.std.specs.Prelude.{IfSome}
+use Rattle.std.proofs.Common.{inl, [], ap}
+use Rattle.weed_base.specs.Sent.{bytes_sent}
 use Rattle.meta_log.specs.Making.{LeavesOthers}
 use Rattle.meta_log.specs.declared.stem.Stem.TheVariants.{Log}
-use Rattle.weed.proofs.RunLemmas.{early_ends, session_is_sound, session_has_words}
+use Rattle.weed.proofs.RunLemmas.{begun_tells, early_ends, session_is_sound, session_has_words}
+use Rattle.weed.proofs.SurvivalLemmas.{log_told, own_is_sound, survives_early, survives_session}
 use Rattle.weed.proofs.run.filer_once.Goals as goal
 
 pub returns-in-Ok-clause-good_words : goal.returns-in-Ok-clause-good_words
@@ -11,7 +12,41 @@ returns-in-Ok-clause-good_words g c place = session_has_words c.run.result place
 pub returns-in-Ok-clause-damaged : goal.returns-in-Ok-clause-damaged
 returns-in-Ok-clause-damaged g c = session_is_sound _ c.run.result c.run.ensures.kind
 
+pub returns-in-Ok-clause-answers : goal.returns-in-Ok-clause-answers
+returns-in-Ok-clause-answers g c first starts =
+    let disk = g.H.Disk in
+    let old = c.args.world.now.host in
+    let mid = c.begin.new.host in
+    let tells = begun_tells (g.S.Source.left c.args.world.now.source) (bytes_sent (disk.sent old)) (bytes_sent (disk.sent mid)) (disk.files old) (disk.files mid) (g.C.Clock.moments c.args.world.now.clock) c.in-Ok.session first
+    starts c.in-Ok.ensures.began (ap bytes_sent c.in-Ok.ensures.sent.0) in
+    let ran = c.run.ensures.ends first tells in
+    let log = log_told (disk.files old) first.log starts.stands.log_is in (
+      ran.0,
+      ran.1,
+      ran.2,
+      inl ran.3,
+      λ own.
+          survives_session disk.tick disk.images disk.image_since disk.sent g.met.H.Disk.only_now g.met.H.Disk.counts_now old mid own (c.in-Ok.ensures.atomic log.0 log.1) _ c.run.result first ran.0 ran.1
+          (own_is_sound (disk.images old) log.0 first.log own (g.met.H.Disk.reads_now old log.0 log.1) log.2)
+          (ran.4 (c.in-Ok.ensures.settled log.0 first.log log.1 log.2)) ran.3,
+    )
+
 pub returns-in-Err-clause-answers : goal.returns-in-Err-clause-answers
 returns-in-Err-clause-answers g c first starts =
-    early_ends (LeavesOthers Log) (g.S.Source.left c.args.world.now.source) (g.H.Disk.sent c.args.world.now.host) (g.H.Disk.sent c.begin.new.host) (g.H.Disk.files c.args.world.now.host) (g.H.Disk.files c.begin.new.host) (g.C.Clock.moments c.args.world.now.clock)
-    c.in-Err.exit first starts c.in-Err.ensures.early c.in-Err.ensures.others c.in-Err.ensures.kept c.in-Err.ensures.sent.0
+    let disk = g.H.Disk in
+    let old = c.args.world.now.host in
+    let new = c.begin.new.host in
+    let ended = early_ends (LeavesOthers Log) (g.S.Source.left c.args.world.now.source) (bytes_sent (disk.sent old)) (bytes_sent (disk.sent new)) (disk.files old) (disk.files new) (g.C.Clock.moments c.args.world.now.clock)
+    c.in-Err.exit first starts c.in-Err.ensures.early c.in-Err.ensures.others c.in-Err.ensures.kept (ap bytes_sent c.in-Err.ensures.sent.0) in
+    let log = log_told (disk.files old) first.log starts.stands.log_is in (
+      [],
+      first,
+      ended.0,
+      ended.1,
+      λ own.
+          survives_early disk.tick disk.images disk.image_since disk.sent g.met.H.Disk.only_now g.met.H.Disk.counts_now old new own (c.in-Err.ensures.atomic log.0 log.1) c.in-Err.exit first first
+          ended.0.sent_is,
+    )
+
+pub returns-in-Ok-clause-own : goal.returns-in-Ok-clause-own
+returns-in-Ok-clause-own g c files told own = session_is_sound _ c.run.result c.run.ensures.kind

@@ -1,4 +1,8 @@
-use Rattle.std.proofs.Common.{◌≡◌, ℕ, List, Err, Ok, sym, ◌∙◌, subst}
+use Rattle.std.proofs.Common.{ℕ, List, Err, Ok, ap, ◌∙◌, subst}
+use Rattle.weed_base.specs.Sent.{bytes_sent}
+use Rattle.weed.specs.Settling.{Settling, Tearing}
+use Rattle.weed.proofs.HandedLemmas.{sends_behind}
+use Rattle.weed.proofs.SettlingLemmas.{settles_sent, tears_sent}
 use Rattle.weed.specs.declared.reply.ReplyFault.{ReplyFault}
 use Rattle.weed.specs.declared.reply.ReplyFault.TheVariants.{DiskFault, Memory}
 use Rattle.weed.proofs.SessionLemmas.{GivesTold, replied_leads, lacked_leads, faulted_leads}
@@ -6,43 +10,79 @@ use Rattle.weed.proofs.session.answer_request.Goals as goal
 
 pub returns-in-Ok-clause-leads : goal.returns-in-Ok-clause-leads
 returns-in-Ok-clause-leads g c old rest asking =
-    replied_leads old rest c.args.session.now.inbox.target (g.S.Source.left c.args.world.now.source)
-    (g.H.Disk.sent c.args.world.now.host) (g.H.Disk.sent c.reply_to_target.new.disk) (g.H.Disk.sent c.send_answer.new.host)
+    let disk = g.H.Disk in
+    let host = c.args.world.now.host in
+    let moves = Settling disk.tick disk.images disk.image_since host c.reply_to_target.new.disk in
+    let tears = Tearing disk.tick disk.images disk.image_since host c.reply_to_target.new.disk in
+    let sent = Settling disk.tick disk.images disk.image_since host c.send_answer.new.host in
+    let torn = Tearing disk.tick disk.images disk.image_since host c.send_answer.new.host in
+    replied_leads moves tears sent torn old rest c.args.session.now.inbox.target (g.S.Source.left c.args.world.now.source)
+    (bytes_sent (g.H.Disk.sent c.args.world.now.host)) (bytes_sent (g.H.Disk.sent c.reply_to_target.new.disk)) (bytes_sent (g.H.Disk.sent c.send_answer.new.host))
     (g.H.Disk.files c.args.world.now.host) (g.H.Disk.files c.reply_to_target.new.disk) (g.H.Disk.files c.send_answer.new.host)
     (g.C.Clock.moments c.args.world.now.clock) (g.C.Clock.moments c.reply_to_target.new.clock)
     c.args.session.now (record { filer = c.reply_to_target.new.filer; inbox = c.args.session.now.inbox; standing = c.args.session.now.standing })
     c.in-Ok.reply c.as_slice.result.now c.send_answer.result
     asking.asked
-    (subst (λ (target : List ℕ). GivesTold (g.H.Disk.files c.args.world.now.host) (g.C.Clock.moments c.args.world.now.clock) c.args.session.now.filer target (g.H.Disk.files c.reply_to_target.new.disk) (g.C.Clock.moments c.reply_to_target.new.clock) c.reply_to_target.new.filer (Ok c.in-Ok.reply)) c.target-target.ensures c.in-Ok.ensures.gives)
-    asking.filer asking.moments_are asking.sent_is c.reply_to_target.ensures.sent.0 c.send_answer.ensures.files c.as_slice.ensures
+    (subst (λ (target : List ℕ). GivesTold moves tears (g.H.Disk.files c.args.world.now.host) (g.C.Clock.moments c.args.world.now.clock) c.args.session.now.filer target (g.H.Disk.files c.reply_to_target.new.disk) (g.C.Clock.moments c.reply_to_target.new.clock) c.reply_to_target.new.filer (Ok c.in-Ok.reply)) c.target-target.ensures c.in-Ok.ensures.gives)
+    (λ before after. settles_sent disk.tick disk.images disk.image_since host c.reply_to_target.new.disk c.send_answer.new.host before after c.send_answer.ensures.still)
+    asking.filer asking.moments_are asking.sent_is (ap bytes_sent c.reply_to_target.ensures.sent.0) c.send_answer.ensures.files c.as_slice.ensures
     c.send_answer.ensures.sends asking.left_is
 
 pub returns-in-Err-Memory-clause-leads : goal.returns-in-Err-Memory-clause-leads
 returns-in-Err-Memory-clause-leads g c old rest asking =
-    let given = subst (λ (fault : ReplyFault). GivesTold (g.H.Disk.files c.args.world.now.host) (g.C.Clock.moments c.args.world.now.clock) c.args.session.now.filer c.target-target.result.now (g.H.Disk.files c.reply_to_target.new.disk) (g.C.Clock.moments c.reply_to_target.new.clock) c.reply_to_target.new.filer (Err fault)) c.in-Err-Memory.field-0-is c.in-Err-Memory.ensures.gives in
-    lacked_leads old rest c.args.session.now.inbox.target (g.S.Source.left c.args.world.now.source)
-    (g.H.Disk.sent c.args.world.now.host) (g.H.Disk.sent c.reply_to_target.new.disk) (g.H.Disk.sent c.send_answer-in-Err-Memory.new.host)
+    let disk = g.H.Disk in
+    let host = c.args.world.now.host in
+    let moves = Settling disk.tick disk.images disk.image_since host c.reply_to_target.new.disk in
+    let tears = Tearing disk.tick disk.images disk.image_since host c.reply_to_target.new.disk in
+    let sent = Settling disk.tick disk.images disk.image_since host c.send_answer-in-Err-Memory.new.host in
+    let torn = Tearing disk.tick disk.images disk.image_since host c.send_answer-in-Err-Memory.new.host in
+    let given = subst (λ (fault : ReplyFault). GivesTold moves tears (g.H.Disk.files c.args.world.now.host) (g.C.Clock.moments c.args.world.now.clock) c.args.session.now.filer c.target-target.result.now (g.H.Disk.files c.reply_to_target.new.disk) (g.C.Clock.moments c.reply_to_target.new.clock) c.reply_to_target.new.filer (Err fault)) c.in-Err-Memory.field-0-is c.in-Err-Memory.ensures.gives in
+    lacked_leads moves tears sent torn old rest c.args.session.now.inbox.target (g.S.Source.left c.args.world.now.source)
+    (bytes_sent (g.H.Disk.sent c.args.world.now.host)) (bytes_sent (g.H.Disk.sent c.reply_to_target.new.disk)) (bytes_sent (g.H.Disk.sent c.send_answer-in-Err-Memory.new.host))
     (g.H.Disk.files c.args.world.now.host) (g.H.Disk.files c.reply_to_target.new.disk) (g.H.Disk.files c.send_answer-in-Err-Memory.new.host)
     (g.C.Clock.moments c.args.world.now.clock) (g.C.Clock.moments c.reply_to_target.new.clock)
     c.args.session.now (record { filer = c.reply_to_target.new.filer; inbox = c.args.session.now.inbox; standing = c.args.session.now.standing })
     c.as_slice-in-Err-Memory.result.now c.send_answer-in-Err-Memory.result
     asking.asked
-    (subst (λ (target : List ℕ). GivesTold (g.H.Disk.files c.args.world.now.host) (g.C.Clock.moments c.args.world.now.clock) c.args.session.now.filer target (g.H.Disk.files c.reply_to_target.new.disk) (g.C.Clock.moments c.reply_to_target.new.clock) c.reply_to_target.new.filer (Err Memory)) c.target-target.ensures given)
-    asking.filer asking.moments_are asking.sent_is c.reply_to_target.ensures.sent.0 c.send_answer-in-Err-Memory.ensures.files
+    (subst (λ (target : List ℕ). GivesTold moves tears (g.H.Disk.files c.args.world.now.host) (g.C.Clock.moments c.args.world.now.clock) c.args.session.now.filer target (g.H.Disk.files c.reply_to_target.new.disk) (g.C.Clock.moments c.reply_to_target.new.clock) c.reply_to_target.new.filer (Err Memory)) c.target-target.ensures given)
+    (λ before after. settles_sent disk.tick disk.images disk.image_since host c.reply_to_target.new.disk c.send_answer-in-Err-Memory.new.host before after c.send_answer-in-Err-Memory.ensures.still)
+    asking.filer asking.moments_are asking.sent_is (ap bytes_sent c.reply_to_target.ensures.sent.0) c.send_answer-in-Err-Memory.ensures.files
     (c.as_slice-in-Err-Memory.ensures ∙ c.args.session.now.standing.memory_is)
     c.send_answer-in-Err-Memory.ensures.sends asking.left_is
 
 pub returns-in-Err-DiskFault-clause-leads : goal.returns-in-Err-DiskFault-clause-leads
 returns-in-Err-DiskFault-clause-leads g c old rest asking =
-    let given = subst (λ (fault : ReplyFault). GivesTold (g.H.Disk.files c.args.world.now.host) (g.C.Clock.moments c.args.world.now.clock) c.args.session.now.filer c.target-target.result.now (g.H.Disk.files c.reply_to_target.new.disk) (g.C.Clock.moments c.reply_to_target.new.clock) c.reply_to_target.new.filer (Err fault)) c.in-Err-DiskFault.field-0-is c.in-Err-DiskFault.ensures.gives in
-    faulted_leads old rest c.args.session.now.inbox.target (g.S.Source.left c.args.world.now.source)
-    (g.H.Disk.sent c.args.world.now.host) (g.H.Disk.sent c.reply_to_target.new.disk) (g.H.Disk.sent c.send_all.new.host)
+    let disk = g.H.Disk in
+    let host = c.args.world.now.host in
+    let moves = Settling disk.tick disk.images disk.image_since host c.reply_to_target.new.disk in
+    let tears = Tearing disk.tick disk.images disk.image_since host c.reply_to_target.new.disk in
+    let sent = Settling disk.tick disk.images disk.image_since host c.send_all.new.host in
+    let torn = Tearing disk.tick disk.images disk.image_since host c.send_all.new.host in
+    let given = subst (λ (fault : ReplyFault). GivesTold moves tears (g.H.Disk.files c.args.world.now.host) (g.C.Clock.moments c.args.world.now.clock) c.args.session.now.filer c.target-target.result.now (g.H.Disk.files c.reply_to_target.new.disk) (g.C.Clock.moments c.reply_to_target.new.clock) c.reply_to_target.new.filer (Err fault)) c.in-Err-DiskFault.field-0-is c.in-Err-DiskFault.ensures.gives in
+    faulted_leads moves tears sent torn old rest c.args.session.now.inbox.target (g.S.Source.left c.args.world.now.source)
+    (bytes_sent (g.H.Disk.sent c.args.world.now.host)) (bytes_sent (g.H.Disk.sent c.reply_to_target.new.disk)) (bytes_sent (g.H.Disk.sent c.send_all.new.host))
     (g.H.Disk.files c.args.world.now.host) (g.H.Disk.files c.reply_to_target.new.disk) (g.H.Disk.files c.send_all.new.host)
     (g.C.Clock.moments c.args.world.now.clock) (g.C.Clock.moments c.reply_to_target.new.clock)
     c.args.session.now (record { filer = c.reply_to_target.new.filer; inbox = c.args.session.now.inbox; standing = c.args.session.now.standing })
     c.as_slice-in-Err-DiskFault.result.now c.send_all.result
     asking.asked
-    (subst (λ (target : List ℕ). GivesTold (g.H.Disk.files c.args.world.now.host) (g.C.Clock.moments c.args.world.now.clock) c.args.session.now.filer target (g.H.Disk.files c.reply_to_target.new.disk) (g.C.Clock.moments c.reply_to_target.new.clock) c.reply_to_target.new.filer (Err DiskFault)) c.target-target.ensures given)
-    asking.filer asking.moments_are asking.sent_is c.reply_to_target.ensures.sent.0 c.send_all.ensures.files
+    (subst (λ (target : List ℕ). GivesTold moves tears (g.H.Disk.files c.args.world.now.host) (g.C.Clock.moments c.args.world.now.clock) c.args.session.now.filer target (g.H.Disk.files c.reply_to_target.new.disk) (g.C.Clock.moments c.reply_to_target.new.clock) c.reply_to_target.new.filer (Err DiskFault)) c.target-target.ensures given)
+    (λ before after. tears_sent disk.tick disk.images disk.image_since host c.reply_to_target.new.disk c.send_all.new.host before after c.send_all.ensures.still)
+    asking.filer asking.moments_are asking.sent_is (ap bytes_sent c.reply_to_target.ensures.sent.0) c.send_all.ensures.files
     (c.as_slice-in-Err-DiskFault.ensures ∙ c.args.session.now.standing.disk_fault_is)
     c.send_all.ensures.bytes
+
+pub returns-in-Ok-clause-pieces : goal.returns-in-Ok-clause-pieces
+returns-in-Ok-clause-pieces g c =
+    sends_behind (g.H.Disk.tick c.send_answer.new.host) (g.H.Disk.sent c.args.world.now.host) (g.H.Disk.sent c.reply_to_target.new.disk) (g.H.Disk.sent c.send_answer.new.host)
+    c.reply_to_target.ensures.sent.0 c.send_answer.ensures.pieces
+
+pub returns-in-Err-Memory-clause-pieces : goal.returns-in-Err-Memory-clause-pieces
+returns-in-Err-Memory-clause-pieces g c =
+    sends_behind (g.H.Disk.tick c.send_answer-in-Err-Memory.new.host) (g.H.Disk.sent c.args.world.now.host) (g.H.Disk.sent c.reply_to_target.new.disk) (g.H.Disk.sent c.send_answer-in-Err-Memory.new.host)
+    c.reply_to_target.ensures.sent.0 c.send_answer-in-Err-Memory.ensures.pieces
+
+pub returns-in-Err-DiskFault-clause-pieces : goal.returns-in-Err-DiskFault-clause-pieces
+returns-in-Err-DiskFault-clause-pieces g c =
+    sends_behind (g.H.Disk.tick c.send_all.new.host) (g.H.Disk.sent c.args.world.now.host) (g.H.Disk.sent c.reply_to_target.new.disk) (g.H.Disk.sent c.send_all.new.host)
+    c.reply_to_target.ensures.sent.0 c.send_all.ensures.pieces

@@ -1,24 +1,63 @@
-use Rattle.std.proofs.Common.{◌≤◌, refl, arith}
-use Rattle.weed.proofs.SessionLemmas.{no_turns, turns_more}
+use Rattle.std.proofs.Common.{◌≡◌, ◌<◌, ◌+◌, ◌∙◌, ◌++◌, ◌∷◌, [], length, refl, sym, ap, subst, arith}
+use Rattle.std.proofs.lemmas.List.{length_push}
+use Rattle.weed_base.specs.Sent.{bytes_sent}
+use Rattle.weed.specs.Session.{State, Turn, last_of, most_turns}
+use Rattle.weed.proofs.SessionLemmas.{rests}
+use Rattle.weed.specs.Tells.{Tells}
+use Rattle.weed.proofs.CrashLemmas.{keeping_begins, keeping_more, last_of-push, steps-push, ends_after, spent_ends}
 use Rattle.weed.proofs.session.run.Goals as goal
 
 pub loop-turn-init : goal.loop-turn-init
-loop-turn-init g c = record {
-  held = c.requires;
-  led = λ first tells. (first, tells, no_turns first);
-  disk_later = omega arith;
-  read_later = omega arith;
-  write_later = omega arith;
-}
+loop-turn-init g c =
+    let disk = g.H.Disk in
+    record {
+      held = c.requires;
+      led = λ first tells. ([], tells, tt, refl, λ keep. keeping_begins disk.tick disk.images disk.image_since disk.sent g.met.H.Disk.only_now c.args.world.now.host first keep);
+      disk_later = omega arith;
+      read_later = omega arith;
+      write_later = omega arith;
+    }
 
 pub loop-turn-preserved : goal.loop-turn-preserved
-loop-turn-preserved g c = record {
-  held = c.in-Open.ensures.held refl;
-  led = λ first tells.
-      let before = c.loop-turn.invariant.led first tells in
-      let turn = c.in-Open.ensures.leads before.0 before.1 in
-      (turn.0, turn.1, turns_more c.loop-turn._turn first before.0 turn.0 before.2 turn.2);
-  disk_later = omega (arith, c.loop-turn.invariant.disk_later, c.in-Open.ensures.disk_later);
-  read_later = omega (arith, c.loop-turn.invariant.read_later, c.in-Open.ensures.read_later);
-  write_later = omega (arith, c.loop-turn.invariant.write_later, c.in-Open.ensures.write_later);
-}
+loop-turn-preserved g c =
+    let disk = g.H.Disk in
+    let start = c.args.world.now.host in
+    let mid = c.loop-turn.world.host in
+    let now = c.turn.new.world.host in
+    record {
+      held = c.in-Open.ensures.held refl;
+      led = λ first tells.
+          let before = c.loop-turn.invariant.led first tells in
+          let turn = c.in-Open.ensures.leads (last_of first before.0) before.1 in (
+            before.0 ++ turn.0 ∷ [],
+            subst (λ (state : State). Tells (g.S.Source.left c.turn.new.world.source) (bytes_sent (disk.sent now)) (disk.files now) (g.C.Clock.moments c.turn.new.world.clock) c.turn.new.session state) (sym (last_of-push first before.0 turn.0)) turn.1,
+            steps-push Turn first before.0 turn.0 before.2 turn.2,
+            length_push before.0 turn.0 ∙ ap (λ n. n + 1) before.3,
+            λ keep. keeping_more disk.tick disk.images disk.image_since disk.sent g.met.H.Disk.only_now start mid now first before.0 (before.4 keep) turn.0 turn.2 turn.3 c.in-Open.ensures.pieces before.1.sent_is,
+          );
+      disk_later = omega (arith, c.loop-turn.invariant.disk_later, c.in-Open.ensures.disk_later);
+      read_later = omega (arith, c.loop-turn.invariant.read_later, c.in-Open.ensures.read_later);
+      write_later = omega (arith, c.loop-turn.invariant.write_later, c.in-Open.ensures.write_later);
+    }
+
+pub returns-in-Ended-clause-ends : goal.returns-in-Ended-clause-ends
+returns-in-Ended-clause-ends g c first tells =
+    let disk = g.H.Disk in
+    let before = c.loop-turn.invariant.led first tells in
+    let few : length before.0 < most_turns = omega (arith, before.3) in
+    ends_after disk.tick disk.images disk.image_since disk.sent g.met.H.Disk.only_now g.met.H.Disk.counts_now c.args.world.now.host c.loop-turn.world.host c.turn.new.world.host c.in-Ended.exit first before.0
+    (g.S.Source.left c.turn.new.world.source) (bytes_sent (disk.sent c.turn.new.world.host)) (disk.files c.turn.new.world.host) (g.C.Clock.moments c.turn.new.world.clock) c.turn.new.session
+    before.2 few before.4 before.1.sent_is c.in-Ended.ensures.pieces (c.in-Ended.ensures.leads (last_of first before.0) before.1)
+
+pub returns-clause-ends : goal.returns-clause-ends
+returns-clause-ends g c first tells =
+    let disk = g.H.Disk in
+    let before = c.loop-turn.invariant.led first tells in
+    let now = c.loop-turn.world.host in
+    let all : length before.0 ≡ most_turns = omega (arith, before.3) in (
+      before.0,
+      last_of first before.0,
+      rests (last_of first before.0) (g.S.Source.left c.loop-turn.world.source) (bytes_sent (disk.sent now)) (disk.files now) (g.C.Clock.moments c.loop-turn.world.clock) c.loop-turn.session before.1,
+      (before.2, all, refl),
+      λ keep. spent_ends disk.tick disk.images disk.image_since disk.sent g.met.H.Disk.only_now c.args.world.now.host now first before.0 (before.4 keep) before.1.sent_is,
+    )

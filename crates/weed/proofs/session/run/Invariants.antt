@@ -1,19 +1,23 @@
-use Rattle.std.proofs.Common.{◌≡◌, ◌≤◌, List}
+use Rattle.std.proofs.Common.{◌≡◌, ◌≤◌, List, length}
+use Rattle.weed_base.specs.Sent.{bytes_sent}
 use Rattle.name_core.specs.declared.change.Record.{Record}
+use Rattle.meta_log.specs.Images.{ImagesKeep}
 use Rattle.weed.specs.Filer.{HoldsFiler}
-use Rattle.weed.specs.Session.{State, Turns}
+use Rattle.weed.specs.Session.{State, Turns, last_of}
 use Rattle.weed.specs.Tells.{Tells}
+use Rattle.weed.proofs.CrashLemmas.{Keeping}
 use Rattle.weed.proofs.session.run.Given as goal
 
 abbrev pub invariant-loop-turn : goal.invariant-loop-turn
 invariant-loop-turn g l =
-    let files = g.H.Disk.files in
-    let sent = g.H.Disk.sent in
+    let disk = g.H.Disk in
     record {
-      held : (records : List Record) × HoldsFiler (files l.world.host) l.session.filer records;
-      led : (first : State) → Tells (g.S.Source.left l.fn.world.source) (sent l.fn.world.host) (files l.fn.world.host) (g.C.Clock.moments l.fn.world.clock) l.fn.session first
-          → (now : State) × Tells (g.S.Source.left l.world.source) (sent l.world.host) (files l.world.host) (g.C.Clock.moments l.world.clock) l.session now × Turns l._turn first now;
-      disk_later : g.H.Disk.faults l.fn.world.host ≤ g.H.Disk.faults l.world.host;
+      held : (records : List Record) × HoldsFiler (disk.files l.world.host) l.session.filer records;
+      led : (first : State) → Tells (g.S.Source.left l.fn.world.source) (bytes_sent (disk.sent l.fn.world.host)) (disk.files l.fn.world.host) (g.C.Clock.moments l.fn.world.clock) l.fn.session first
+          → (path : List State) × Tells (g.S.Source.left l.world.source) (bytes_sent (disk.sent l.world.host)) (disk.files l.world.host) (g.C.Clock.moments l.world.clock) l.session (last_of first path)
+          × Turns first path × (length path ≡ l._turn)
+          × (ImagesKeep (disk.images l.fn.world.host) first.log → Keeping disk.tick disk.images disk.image_since disk.sent l.fn.world.host l.world.host first path);
+      disk_later : disk.faults l.fn.world.host ≤ disk.faults l.world.host;
       read_later : g.S.Source.faults l.fn.world.source ≤ g.S.Source.faults l.world.source;
-      write_later : g.H.Disk.send_faults l.fn.world.host ≤ g.H.Disk.send_faults l.world.host;
+      write_later : disk.send_faults l.fn.world.host ≤ disk.send_faults l.world.host;
     }

@@ -1,5 +1,8 @@
 use Rattle.std.proofs.Common.{length, ◌-◌, ◌≡◌, ◌≤◌, take}
 use Rattle.weed_base.specs.Told.{Appends}
+use Rattle.weed_base.specs.Images.{StandsStill}
+use Rattle.weed_base.specs.Sent.{bytes_sent}
+use Rattle.weed.specs.Handed.{SendsAt}
 use Rattle.weed.proofs.write.send_all.Given as goal
 
 abbrev pub invariant-loop-done : goal.invariant-loop-done
@@ -8,7 +11,9 @@ invariant-loop-done g l =
     let disk = g.H.Disk in
     record {
       within : l.done ≤ length l.bytes;
-      bytes : Appends (disk.sent l.fn.host) (disk.sent l.host) (take l.done l.bytes);
+      bytes : Appends (bytes_sent (disk.sent l.fn.host)) (bytes_sent (disk.sent l.host)) (take l.done l.bytes);
+      pieces : SendsAt (disk.tick l.host) (disk.sent l.fn.host) (disk.sent l.host);
+      still : StandsStill (disk.tick l.fn.host) (disk.tick l.host) (disk.image_since l.fn.host) (disk.image_since l.host) (disk.images l.fn.host) (disk.images l.host);
       later : disk.send_faults l.fn.host ≤ disk.send_faults l.host;
       files : disk.files l.host ≡ disk.files l.fn.host;
       faults : disk.faults l.host ≡ disk.faults l.fn.host;

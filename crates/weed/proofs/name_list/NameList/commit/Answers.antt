@@ -1,4 +1,4 @@
-use Rattle.std.proofs.Common.{◌≡◌, ◌++◌, List, Result, Ok, cond, subst, is_ok, ap, ◌∙◌}
+use Rattle.std.proofs.Common.{◌≡◌, ◌++◌, List, Result, cond, subst, is_ok, ap, ◌∙◌}
 use Rattle.std.specs.declared.alloc.AllocError.{AllocError}
 use Rattle.name_core.specs.declared.change.Change.{Change}
 use Rattle.weed.proofs.NameLemmas.{committed}

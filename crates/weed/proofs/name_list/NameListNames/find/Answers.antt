@@ -1,4 +1,4 @@
-use Rattle.std.proofs.Common.{◌≡◌, ◌≢◌, sym, subst}
+use Rattle.std.proofs.Common.{sym, subst}
 use Rattle.name_core.specs.Entry.{IsValid}
 use Rattle.weed.proofs.NameLemmas.{left_is_kept}
 use Rattle.weed.proofs.name_list.NameListNames.find.Goals as goal
