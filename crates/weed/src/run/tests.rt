@@ -252,3 +252,5 @@ fn each_call_of_the_disk_may_fail(rt: HostRuntime) -> Result<(), Fail> {
     assert!(rt; told >= 4, "{told} faults of an append");
     Ok(())
 }
+
+mod crashes;
