@@ -1,6 +1,7 @@
 ghost use Rattle.std.specs.Prelude.{◌≡◌, ◌≤◌, List, false, length, IfOk};
 ghost use Rattle.std.specs.Bool.{OnTrue};
 ghost use Rattle.meta_log.specs.Kept.{Keeps};
+ghost use Rattle.meta_log.specs.RecordPlaces.{KeepsPlace};
 
 use super::*;
 use name_core::Record;
@@ -291,13 +292,25 @@ fn payloads_are_read_from_a_place(rt: HostRuntime) -> Result<(), Fail> {
     Ok(())
 }
 
-#[test]
+/// The texts of the first two records, and the place behind them.
 #[tactic(auto, using(crate::proofs::RecordPlaces::start_keeps))]
+fn first_two<D: Disk>(
+    alloc: Global,
+    meta: &MetaLog,
+    disk: &mut D,
+) -> Result<(Items<LogText>, Place), LogFault>
+    requires { Keeps (D.files disk.old) meta.now }
+    ensures { IfOk result (λ read. KeepsPlace (D.files disk.new) meta.now read.1) }
+{
+    meta.read_from(alloc, disk, meta.start(), 2)
+}
+
+#[test]
 fn records_are_read_from_a_place(rt: HostRuntime) -> Result<(), Fail> {
     let alloc = rt.alloc();
     let mut disk = disk(alloc, &[], &[])?;
     let meta = open_with_three(&rt, alloc, &mut disk)?;
-    let (texts, next) = meta.read_from(alloc, &mut disk, meta.start(), 2)?;
+    let (texts, next) = first_two(alloc, &meta, &mut disk)?;
     assert_eq!(rt; lengths(&texts), (2, 50));
     assert_eq!(rt; next, Place { segment: 1, at: 60 });
     let (texts, next) = meta.read_from(alloc, &mut disk, next, 2)?;
