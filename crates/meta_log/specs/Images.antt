@@ -53,8 +53,12 @@ abbrev pub AreNear : List Record → List Record → Type 0
 AreNear one other =
     (one ≡ other) ⊎ ((more : Record) × (one ≡ other ++ more ∷ [])) ⊎ ((more : Record) × (other ≡ one ++ more ∷ []))
 
--- A disk of one's own: each image is a log of records, which is sound, and of two images the logs are near.
+-- The logs of any two of the images are near.
+abbrev pub AllNear : (Files → Type 0) → Type 0
+AllNear images =
+    (one other : Files) (records others : List Record) → images one → images other → IsRecordLog one records → IsRecordLog other others → AreNear records others
+
+-- A disk of one's own: each image is a log of records, which is sound, and all of them are near.
 pub record IsOwn (images : Files → Type 0) : Type 0 where
   pub logs : (image : Files) → images image → (records : List Record) × IsRecordLog image records × IsSound records
-  pub near : (one other : Files) (records others : List Record) → images one → images other
-      → IsRecordLog one records → IsRecordLog other others → AreNear records others
+  pub near : AllNear images

@@ -20,13 +20,13 @@ use Rattle.weed_base.specs.Sent.{Piece, bytes_sent}
 use Rattle.weed_base.proofs.ImageLemmas.{leaves_both, leaves_weaker, leaves_nothing}
 use Rattle.name_core.specs.declared.change.Record.{Record}
 use Rattle.meta_log.specs.Kept.{IsRecordLog}
-use Rattle.meta_log.specs.Images.{ImagesKeep, AreNear}
+use Rattle.meta_log.specs.Images.{ImagesKeep, AllNear, AreNear}
 use Rattle.meta_log.proofs.RecordCrashes.{keeps_each}
 use Rattle.weed.specs.Handed.{IsSentAt, SendsAt}
 use Rattle.weed.specs.Settling.{IsOneOf, Settling, Tearing}
 use Rattle.weed.specs.Session.{State, Answers, Turn, Turns, Steps, Rests, EndsAfter, LeadsTo, Stands, last_of, most_turns}
 use Rattle.weed.specs.Tells.{Leads, Ends}
-use Rattle.weed.specs.Crash.{IsPassed, IsOfRun, BeginsWith, KeepsFrom, AllNear, Withstands}
+use Rattle.weed.specs.Crash.{IsPassed, IsOfRun, BeginsWith, KeepsFrom, Withstands}
 use Rattle.weed.specs.declared.exit.Exit.{Exit}
 use Rattle.weed.specs.declared.exit.Exit.TheVariants as exit
 use Rattle.weed.specs.declared.session.Session.{Session}

@@ -1,5 +1,5 @@
 -- From a whole run to its session.
-use Rattle.std.proofs.Common.{◌≡◌, ◌≢◌, ℕ, List, [], length, Option, Some, None, refl, ap, ◌∙◌, subst, inl, inr}
+use Rattle.std.proofs.Common.{◌≡◌, ◌≢◌, ◌⊎◌, ℕ, List, [], length, Option, Some, None, refl, ap, ◌∙◌, subst, inl, inr}
 use Rattle.std.specs.Prelude.{IfSome, IsSomeAnd}
 use Rattle.weed_base.specs.Files.{Files, BothTold}
 use Rattle.name_core.specs.declared.change.Record.{Record}
@@ -8,8 +8,8 @@ use Rattle.meta_log.proofs.Damage.{no_record_damage}
 use Rattle.weed.specs.Inbox.{left_of}
 use Rattle.weed.specs.Filer.{IsFiledFrom, TellsFiler}
 use Rattle.weed.specs.Session.{State, Stands, Turns, most_turns}
-use Rattle.weed.specs.Tells.{Tells, IsSessionEnd}
-use Rattle.weed.specs.Run.{Starts, Begins, EndsRun, IsEarly, IfDamagedExit, IsDoneOrShort, exit_of_fault}
+use Rattle.weed.specs.Tells.{Tells, Ends, IsSessionEnd}
+use Rattle.weed.specs.Run.{Starts, Begins, IsEarly, IfDamagedExit, IsDoneOrShort, exit_of_fault}
 use Rattle.meta_log.specs.Faults.{IfDamaged}
 use Rattle.meta_log.specs.declared.fault.LogFault.{LogFault}
 use Rattle.meta_log.specs.declared.fault.LogFault.TheVariants as fault
@@ -38,14 +38,15 @@ still_log R None new log both kept there = absurd there
 still_log R (Some files) None log both kept there = absurd both
 still_log R (Some files) (Some files') log both kept there = kept there
 
--- A run that ended before its session leaves what it started from.
-pub early_ends : (R : Files → Files → Type 0) (left sent sent' : Option (List ℕ)) (old new : Option Files) (clock : Option (List ℕ)) (end : Exit) (first : State)
-    → Starts left sent old clock first → IsEarly end → BothTold R old new → ((records : List Record) → HoldsRecordLog old records → HoldsRecordLog new records) → sent' ≡ sent
-    → Stands sent' new clock first × EndsRun end first [] first
-early_ends R left sent sent' old new clock end first starts early both kept same = (
-  record { sent_is = same ∙ starts.stands.sent_is; log_is = still_log R old new first.log both (kept first.log) starts.stands.log_is; moments_are = starts.stands.moments_are },
-  inr (early, refl, record { sent = refl; log = refl; moments = refl }),
-)
+-- What ended before its session leaves what it started from.
+pub early_stands : (R : Files → Files → Type 0) (left sent sent' : Option (List ℕ)) (old new : Option Files) (clock : Option (List ℕ)) (first : State)
+    → Starts left sent old clock first → BothTold R old new → ((records : List Record) → HoldsRecordLog old records → HoldsRecordLog new records) → sent' ≡ sent
+    → Stands sent' new clock first
+early_stands R left sent sent' old new clock first starts both kept same = record {
+  sent_is = same ∙ starts.stands.sent_is;
+  log_is = still_log R old new first.log both (kept first.log) starts.stands.log_is;
+  moments_are = starts.stands.moments_are;
+}
 
 -- A log that was opened without damage
 pub exit_is_sound : (fault : LogFault) → IfDamaged (λ _ _. ⊥) fault → IfDamagedExit (λ _ _. ⊥) (exit_of_fault fault)
@@ -73,7 +74,7 @@ undamaged (Some files) log file at there damage = no_record_damage files file at
 -- An end has its cause: without one, the run is done or short of memory.
 pub completes : (files : Option Files) (Same : Type 0) (Disk Read Write : Type 0) (end : Exit) (first : State)
     → IsSomeAnd files (λ told. IsRecordLog told first.log)
-    → (path : List State) (last : State) → EndsRun end first path last
+    → (path : List State) (last : State) → Ends end first path last ⊎ IsEarly end
     → ((place : ℕ) → end ≡ exit.BadWords place → ⊥)
     → IfDamagedExit (λ file at. IfSome files (λ told. IsRecordDamage told file at) × Same) end
     → (end ≡ exit.DiskFault → Disk) → (end ≡ exit.ReadFault → Read) → (end ≡ exit.WriteFault → Write)
@@ -85,6 +86,6 @@ completes files Same Disk Read Write exit.DiskFault first there path last ends g
 completes files Same Disk Read Write exit.ReadFault first there path last ends good damaged disk read write no_disk no_read no_write few = no_read (read refl)
 completes files Same Disk Read Write exit.WriteFault first there path last ends good damaged disk read write no_disk no_read no_write few = no_write (write refl)
 completes files Same Disk Read Write exit.TurnsSpent first there path last (inl ends) good damaged disk read write no_disk no_read no_write few = few path ends.0 ends.1
-completes files Same Disk Read Write exit.TurnsSpent first there path last (inr early) good damaged disk read write no_disk no_read no_write few = early.0
+completes files Same Disk Read Write exit.TurnsSpent first there path last (inr early) good damaged disk read write no_disk no_read no_write few = early
 completes files Same Disk Read Write (exit.BadWords place) first there path last ends good damaged disk read write no_disk no_read no_write few = good place refl
 completes files Same Disk Read Write (exit.Damaged file at) first there path last ends good damaged disk read write no_disk no_read no_write few = undamaged files first.log file at there damaged.0

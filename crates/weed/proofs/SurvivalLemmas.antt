@@ -8,13 +8,13 @@ use Rattle.weed_base.proofs.ImageLemmas.{leaves_both, leaves_weaker, reads_leave
 use Rattle.name_core.specs.declared.change.Record.{Record}
 use Rattle.name_core.specs.Log.{IsSound}
 use Rattle.meta_log.specs.Kept.{IsRecordLog}
-use Rattle.meta_log.specs.Images.{HasLogOf, IsOwn, AreNear}
+use Rattle.meta_log.specs.Images.{HasLogOf, IsOwn, AllNear, AreNear}
 use Rattle.meta_log.specs.Faults.{IfDamaged}
 use Rattle.meta_log.specs.declared.fault.LogFault.{LogFault}
 use Rattle.meta_log.specs.declared.fault.LogFault.TheVariants as fault
 use Rattle.weed.specs.Session.{State}
 use Rattle.weed.specs.Tells.{Ends}
-use Rattle.weed.specs.Crash.{IsOfRun, IsSoundLog, IsAtStart, AllNear, Withstands, Survives}
+use Rattle.weed.specs.Crash.{IsOfRun, IsSoundLog, IsAtStart, Withstands, Survives}
 use Rattle.weed.specs.declared.exit.Exit.{Exit}
 use Rattle.weed.proofs.HandedLemmas.{unsent}
 use Rattle.weed.proofs.CrashLemmas.{log_unique}
@@ -89,7 +89,7 @@ module _ {D : Type 0} (tick : D → ℕ) (images : D → Files → Type 0) (sinc
         subst (λ (r : List Record). AreNear r others) (sym same) (subst (λ (r : List Record). AreNear at.0 r) (sym equal) (own.near at.2.0 to.2.0 at.0 to.0 at.2.1 to.2.1 at.2.2 to.2.2))
 
     -- a run that ended before its session
-    pub survives_early : (end : Exit) (first last : State) → bytes_sent (sent mid) ≡ Some first.sent → Survives tick images since sent start mid end first [] last
+    pub survives_early : (end : Exit) (first last : State) → bytes_sent (sent mid) ≡ Some first.sent → Survives tick images since sent start mid end first [] last (λ _. ⊥)
     survives_early end first last told = record {
       crash = λ image left. let was = before_session image left in (was.0, was.1, inl was.2);
       answers = record { whole = tt; begun = λ _ moment image at left. absurd (unsent (sent mid) first.sent moment told at) };
@@ -111,5 +111,5 @@ module _ {D : Type 0} (tick : D → ℕ) (images : D → Files → Type 0) (sinc
           let at = session_crash image (counts_now now (tick start) image (omega (arith, opens.later, withstands.leaves.later)) left) in
           (at.0, at.1.0, at.1.1)
 
-      pub survives_session : Survives tick images since sent start now end first path last
+      pub survives_session : Survives tick images since sent start now end first path last (IsOfRun end first path last)
       survives_session = record { crash = session_crash; answers = withstands.answers; again = record { logs = session_logs; near = withstands.near } }

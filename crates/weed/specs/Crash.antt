@@ -6,7 +6,7 @@ use Rattle.weed_base.specs.Sent.{Piece}
 use Rattle.name_core.specs.declared.change.Record.{Record}
 use Rattle.name_core.specs.Log.{IsSound}
 use Rattle.meta_log.specs.Kept.{IsRecordLog}
-use Rattle.meta_log.specs.Images.{AreNear, IsOwn}
+use Rattle.meta_log.specs.Images.{AllNear, IsOwn}
 use Rattle.weed.specs.Handed.{IsSentAt}
 use Rattle.weed.specs.Session.{State, Steps, LeadsTo, last_of}
 use Rattle.weed.specs.declared.exit.Exit.{Exit}
@@ -37,11 +37,6 @@ pub record Acknowledges (since : ℕ → Files → Type 0) (sent : Option (List 
   pub whole : Steps (λ old new. KeepsFrom since sent (length old.sent) new.log) first path
   pub begun : end ≢ exit.DiskFault → KeepsFrom since sent (length (last_of first path).sent) last.log
 
--- The logs of any two of the images are the same, or one has one record more at its end.
-abbrev pub AllNear : (Files → Type 0) → Type 0
-AllNear images =
-    (one other : Files) (records others : List Record) → images one → images other → IsRecordLog one records → IsRecordLog other others → AreNear records others
-
 -- Where each image was the first log, a session leaves this of crashes.
 pub record Withstands {D : Type 0} (tick : D → ℕ) (images : D → Files → Type 0) (since : D → ℕ → Files → Type 0) (sent : D → Option (List Piece)) (old new : D) (end : Exit) (first : State) (path : List State) (last : State) : Type 0 where
   pub leaves : LeavesOnly tick since old new (λ image. (log : List Record) × IsRecordLog image log × IsOfRun end first path last log)
@@ -56,10 +51,9 @@ IsSoundLog image log = IsRecordLog image log × IsSound log
 abbrev pub IsAtStart : (Files → Type 0) → List Record → Type 0
 IsAtStart images log = (image : Files) × images image × IsRecordLog image log
 
--- A run survives crashes: each image since its start is a sound log, that of an image at the start or of the run; each
--- answer keeps what it stands on; and the disk is one's own again.
-pub record Survives {D : Type 0} (tick : D → ℕ) (images : D → Files → Type 0) (since : D → ℕ → Files → Type 0) (sent : D → Option (List Piece)) (old new : D) (end : Exit) (first : State) (path : List State) (last : State) : Type 0 where
-  pub crash : (image : Files) → since new (tick old) image
-      → (log : List Record) × IsSoundLog image log × (IsAtStart (images old) log ⊎ IsOfRun end first path last log)
+-- A run survives crashes: each image since its start is a sound log, that of an image at the start or one of the
+-- run's; each answer keeps what it stands on; and the disk is one's own again.
+pub record Survives {D : Type 0} (tick : D → ℕ) (images : D → Files → Type 0) (since : D → ℕ → Files → Type 0) (sent : D → Option (List Piece)) (old new : D) (end : Exit) (first : State) (path : List State) (last : State) (OfRun : List Record → Type 0) : Type 0 where
+  pub crash : (image : Files) → since new (tick old) image → (log : List Record) × IsSoundLog image log × (IsAtStart (images old) log ⊎ OfRun log)
   pub answers : Acknowledges (since new) (sent new) end first path last
   pub again : IsOwn (images new)

@@ -7,6 +7,8 @@ use Rattle.weed.specs.declared.session.Session.{Session}
 use Rattle.weed_base.specs.Files.{Files}
 use Rattle.weed.specs.Session.{State, Rests, Stands}
 use Rattle.weed.specs.Tells.{Ends}
+use Rattle.weed.specs.Crash.{IsOfRun}
+use Rattle.name_core.specs.declared.change.Record.{Record}
 use Rattle.weed.specs.declared.exit.Exit.{Exit}
 use Rattle.weed.specs.declared.exit.Exit.TheVariants as exit
 
@@ -27,7 +29,7 @@ exit_of_fault fault.DiskFault = exit.DiskFault
 exit_of_fault (fault.Damaged file at) = exit.Damaged file at
 exit_of_fault fault.Memory = exit.Memory
 
--- A run ends as its session does, or before it: by the disk, by want of memory, or by a damaged log.
+-- The ends of a run before its session: by the disk, by want of memory, or by a damaged log
 abbrev pub IsEarly : Exit → Type 0
 IsEarly exit.DiskFault = ⊤
 IsEarly exit.Memory = ⊤
@@ -38,8 +40,12 @@ IsEarly exit.WriteFault = ⊥
 IsEarly exit.TurnsSpent = ⊥
 IsEarly (exit.BadWords place) = ⊥
 
-abbrev pub EndsRun : Exit → State → List State → State → Type 0
-EndsRun end first path last = Ends end first path last ⊎ (IsEarly end × (path ≡ []) × Rests first last)
+-- A run ends as its session does, or before it. `Leaves` tells what came of it where its own logs are these: those
+-- of its session, or none.
+abbrev pub EndsRun : Exit → State → List State → State → ((List Record → Type 0) → Type 0) → Type 0
+EndsRun end first path last Leaves =
+    (Ends end first path last × Leaves (IsOfRun end first path last))
+    ⊎ (IsEarly end × (path ≡ []) × Rests first last × Leaves (λ _. ⊥))
 
 -- Where it is damage, its file and place are so.
 abbrev pub IfDamagedExit : (List ℕ → ℕ → Type 0) → Exit → Type 0

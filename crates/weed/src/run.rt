@@ -69,8 +69,8 @@ pub fn weed<S: Source, H: Host, C: Clock>(
     ensures answers { (dir : List ℕ) (first : State) → order_of words.now ≡ Ok dir
         → Starts (S.left world.source) (bytes_sent (H.sent world.host)) (H.files world.host) (C.moments world.clock) first
         → (path : List State) × (last : State) × Stands (bytes_sent (H.sent result.1.host)) (H.files result.1.host) (C.moments result.1.clock) last
-        × EndsRun result.0 first path last
-        × (IsOwn (H.images world.host) → Survives H.tick H.images H.image_since H.sent world.host result.1.host result.0 first path last) }
+        × EndsRun result.0 first path last (λ of_run. IsOwn (H.images world.host)
+        → Survives H.tick H.images H.image_since H.sent world.host result.1.host result.0 first path last of_run) }
 
     // Where nothing of the outside failed, the log is one, and fewer than 2^40 requests are answered without
     // closing, the run is done, or memory was wanting.
@@ -105,8 +105,8 @@ fn filer_once<S: Source, H: Host, C: Clock>(
 ) -> Exit
     ensures answers { (first : State) → Starts (S.left world.old.source) (bytes_sent (H.sent world.old.host)) (H.files world.old.host) (C.moments world.old.clock) first
         → (path : List State) × (last : State) × Stands (bytes_sent (H.sent world.new.host)) (H.files world.new.host) (C.moments world.new.clock) last
-        × EndsRun result first path last
-        × (IsOwn (H.images world.old.host) → Survives H.tick H.images H.image_since H.sent world.old.host world.new.host result first path last) }
+        × EndsRun result first path last (λ of_run. IsOwn (H.images world.old.host)
+        → Survives H.tick H.images H.image_since H.sent world.old.host world.new.host result first path last of_run) }
     ensures good_words { (place : ℕ) → result ≡ Exit.BadWords place → ⊥ }
     ensures damaged { IfDamagedExit (λ file at. IfSome (H.files world.old.host) (λ files. IsRecordDamage files file at) × (H.files world.new.host ≡ H.files world.old.host)) result }
     ensures own { (files : Files) → H.files world.old.host ≡ Some files → IsOwn (H.images world.old.host) → IfDamagedExit (λ _ _. ⊥) result }

@@ -1,8 +1,8 @@
-use Rattle.std.proofs.Common.{inl, [], ap}
+use Rattle.std.proofs.Common.{inl, inr, [], refl, ap}
 use Rattle.weed_base.specs.Sent.{bytes_sent}
 use Rattle.meta_log.specs.Making.{LeavesOthers}
 use Rattle.meta_log.specs.declared.stem.Stem.TheVariants.{Log}
-use Rattle.weed.proofs.RunLemmas.{begun_tells, early_ends, session_is_sound, session_has_words}
+use Rattle.weed.proofs.RunLemmas.{begun_tells, early_stands, session_is_sound, session_has_words}
 use Rattle.weed.proofs.SurvivalLemmas.{log_told, own_is_sound, survives_early, survives_session}
 use Rattle.weed.proofs.run.filer_once.Goals as goal
 
@@ -24,11 +24,13 @@ returns-in-Ok-clause-answers g c first starts =
       ran.0,
       ran.1,
       ran.2,
-      inl ran.3,
-      λ own.
-          survives_session disk.tick disk.images disk.image_since disk.sent g.met.H.Disk.only_now g.met.H.Disk.counts_now old mid own (c.in-Ok.ensures.atomic log.0 log.1) _ c.run.result first ran.0 ran.1
-          (own_is_sound (disk.images old) log.0 first.log own (g.met.H.Disk.reads_now old log.0 log.1) log.2)
-          (ran.4 (c.in-Ok.ensures.settled log.0 first.log log.1 log.2)) ran.3,
+      inl (
+        ran.3,
+        λ own.
+            survives_session disk.tick disk.images disk.image_since disk.sent g.met.H.Disk.only_now g.met.H.Disk.counts_now old mid own (c.in-Ok.ensures.atomic log.0 log.1) _ c.run.result first ran.0 ran.1
+            (own_is_sound (disk.images old) log.0 first.log own (g.met.H.Disk.reads_now old log.0 log.1) log.2)
+            (ran.4 (c.in-Ok.ensures.settled log.0 first.log log.1 log.2)) ran.3,
+      ),
     )
 
 pub returns-in-Err-clause-answers : goal.returns-in-Err-clause-answers
@@ -36,16 +38,20 @@ returns-in-Err-clause-answers g c first starts =
     let disk = g.H.Disk in
     let old = c.args.world.now.host in
     let new = c.begin.new.host in
-    let ended = early_ends (LeavesOthers Log) (g.S.Source.left c.args.world.now.source) (bytes_sent (disk.sent old)) (bytes_sent (disk.sent new)) (disk.files old) (disk.files new) (g.C.Clock.moments c.args.world.now.clock)
-    c.in-Err.exit first starts c.in-Err.ensures.early c.in-Err.ensures.others c.in-Err.ensures.kept (ap bytes_sent c.in-Err.ensures.sent.0) in
+    let stands = early_stands (LeavesOthers Log) (g.S.Source.left c.args.world.now.source) (bytes_sent (disk.sent old)) (bytes_sent (disk.sent new)) (disk.files old) (disk.files new) (g.C.Clock.moments c.args.world.now.clock)
+    first starts c.in-Err.ensures.others c.in-Err.ensures.kept (ap bytes_sent c.in-Err.ensures.sent.0) in
     let log = log_told (disk.files old) first.log starts.stands.log_is in (
       [],
       first,
-      ended.0,
-      ended.1,
-      λ own.
-          survives_early disk.tick disk.images disk.image_since disk.sent g.met.H.Disk.only_now g.met.H.Disk.counts_now old new own (c.in-Err.ensures.atomic log.0 log.1) c.in-Err.exit first first
-          ended.0.sent_is,
+      stands,
+      inr (
+        c.in-Err.ensures.early,
+        refl,
+        record { sent = refl; log = refl; moments = refl },
+        λ own.
+            survives_early disk.tick disk.images disk.image_since disk.sent g.met.H.Disk.only_now g.met.H.Disk.counts_now old new own (c.in-Err.ensures.atomic log.0 log.1) c.in-Err.exit first first
+            stands.sent_is,
+      ),
     )
 
 pub returns-in-Ok-clause-own : goal.returns-in-Ok-clause-own
