@@ -8,7 +8,7 @@ use name_core::Record;
 use std::alloc::{AllocError, Global};
 use std::process::Abort;
 use std::test::Fail;
-use weed_base::{Bytes, Disk, Failed, FileName, Items, LogText, MemDisk, NamedBytes};
+use weed_base::{Bytes, Disk, Failed, FileName, Items, LogText, MemDisk, NamedBytes, Pick};
 
 /// The log of two directories that one record made at 5 seconds past 1970.
 const FIRST_LOG: [u8; 59] = [
@@ -271,6 +271,42 @@ fn an_append_whose_call_fails_leaves_the_record_out_or_in(rt: HostRuntime) -> Re
             find(rt.alloc(), &mut disk)?,
             Found::Records(wanted),
             "call {failing}"
+        );
+    }
+    Ok(())
+}
+
+/// How many records are found in what a crash at a tick leaves: what was settled, all that was done, or ones
+/// in place of what wasn't settled.
+fn counts_after_crash(alloc: Global, disk: &MemDisk, tick: u64) -> Result<[u64; 3], Fail> {
+    Ok([
+        count_after_crash(alloc, disk, tick, Pick::Old)?,
+        count_after_crash(alloc, disk, tick, Pick::New)?,
+        count_after_crash(alloc, disk, tick, Pick::Fill(1))?,
+    ])
+}
+
+fn count_after_crash(alloc: Global, disk: &MemDisk, tick: u64, pick: Pick) -> Result<u64, Fail> {
+    let mut image = disk.image(tick, pick)?;
+    Ok(MetaLog::open(alloc, &mut image)?.front().count)
+}
+
+#[test]
+fn a_crash_during_an_append_leaves_the_record_out_or_in(rt: HostRuntime) -> Result<(), Fail> {
+    let mut disk = with_segment(rt.alloc(), &FIRST_LOG)?;
+    let mut meta = MetaLog::open(rt.alloc(), &mut disk)?;
+    assert!(rt; add(rt.alloc(), &mut meta, &mut disk, &later_text())?);
+    for tick in 0..=disk.tick() {
+        // The append's gate is written by the third of its calls, and settled by the fourth.
+        let wanted = match tick {
+            0..=7 => [1, 1, 1],
+            8 => [1, 2, 2],
+            _ => [2, 2, 2],
+        };
+        assert_eq!(rt;
+            counts_after_crash(rt.alloc(), &disk, tick)?,
+            wanted,
+            "at {tick}"
         );
     }
     Ok(())
