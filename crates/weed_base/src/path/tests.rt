@@ -36,68 +36,54 @@ fn reads_what_is_a_path(rt: HostRuntime) -> Result<(), Fail> {
     Ok(())
 }
 
-#[test]
-fn refuses_bad_parts(rt: HostRuntime) {
-    let alloc = rt.alloc();
-    assert_eq!(rt; answer_to(alloc, b"//"), "EmptyPart");
-    assert_eq!(rt; answer_to(alloc, b"/a/"), "EmptyPart");
-    assert_eq!(rt; answer_to(alloc, b"/a//b"), "EmptyPart");
-    assert_eq!(rt; answer_to(alloc, b"/."), "DotPart");
-    assert_eq!(rt; answer_to(alloc, b"/a/../b"), "DotPart");
-    assert_eq!(rt; answer_to(alloc, b"/.../.a"), "Ok");
-}
-
-#[test]
-fn refuses_bad_bytes(rt: HostRuntime) {
-    let alloc = rt.alloc();
-    assert_eq!(rt; answer_to(alloc, b""), "NotAbsolute");
-    assert_eq!(rt; answer_to(alloc, b"a/b"), "NotAbsolute");
-    assert_eq!(rt; answer_to(alloc, b"/a\0"), "NulByte");
-    assert_eq!(rt; answer_to(alloc, b"/\xff"), "NotUtf8");
-    assert_eq!(rt; answer_to(alloc, b"/\xc3\xa5"), "Ok");
-    assert_eq!(rt; answer_to(alloc, b"/\xc3/\xa5"), "NotUtf8");
-}
+/// Short texts, and what a read of each answers.
+const TEXTS: [(&[u8], &str); 17] = [
+    (b"/", "Ok"),
+    (b"/.../.a", "Ok"),
+    (b"/\xc3\xa5", "Ok"),
+    (b"", "NotAbsolute"),
+    (b"a/b", "NotAbsolute"),
+    (b"\0", "NotAbsolute"),
+    (b"/a\0", "NulByte"),
+    (b"/\xff\0", "NulByte"),
+    (b"/\xff", "NotUtf8"),
+    (b"/\xc3/\xa5", "NotUtf8"),
+    (b"//\xff", "NotUtf8"),
+    (b"//", "EmptyPart"),
+    (b"/a/", "EmptyPart"),
+    (b"//.", "EmptyPart"),
+    (b"/.", "DotPart"),
+    (b"/./", "DotPart"),
+    (b"/a/../b", "DotPart"),
+];
 
 #[test]
 fn tells_the_first_fault(rt: HostRuntime) {
-    let alloc = rt.alloc();
-    assert_eq!(rt; answer_to(alloc, b"\0"), "NotAbsolute");
-    assert_eq!(rt; answer_to(alloc, [b'/'; 4097].as_slice()), "TooLong");
-    assert_eq!(rt; answer_to(alloc, b"/\xff\0"), "NulByte");
-    assert_eq!(rt; answer_to(alloc, b"//\xff"), "NotUtf8");
-    assert_eq!(rt; answer_to(alloc, b"/./"), "DotPart");
-    assert_eq!(rt; answer_to(alloc, b"//."), "EmptyPart");
-    let mut deep = [b'.'; 132];
-    slash_each(&mut deep, 2);
-    assert_eq!(rt; answer_to(alloc, deep.as_slice()), "DotPart");
+    for (text, answer) in TEXTS {
+        assert_eq!(rt; answer_to(rt.alloc(), text), answer, "{text:?}");
+    }
 }
 
 #[test]
-fn takes_a_part_of_255_bytes(rt: HostRuntime) {
-    let mut text = [b'a'; 257];
-    text[0] = b'/';
-    assert_eq!(rt; answer_to(rt.alloc(), &text[..256]), "Ok");
-    assert_eq!(rt; answer_to(rt.alloc(), text.as_slice()), "PartTooLong");
-}
-
-#[test]
-fn takes_64_parts(rt: HostRuntime) {
-    let mut text = [b'a'; 128];
-    slash_each(&mut text, 2);
-    assert_eq!(rt; answer_to(rt.alloc(), text.as_slice()), "Ok");
-    let mut text = [b'a'; 130];
-    slash_each(&mut text, 2);
-    assert_eq!(rt; answer_to(rt.alloc(), text.as_slice()), "TooDeep");
-}
-
-#[test]
-fn takes_4096_bytes(rt: HostRuntime) {
-    let mut text = [b'a'; 4096];
-    slash_each(&mut text, 241);
-    assert_eq!(rt; answer_to(rt.alloc(), text.as_slice()), "Ok");
-    let mut text = [b'a'; 4097];
-    slash_each(&mut text, 241);
-    assert_eq!(rt; answer_to(rt.alloc(), text.as_slice()), "TooLong");
+fn takes_up_to_the_limits(rt: HostRuntime) {
+    for (fill, step, length, answer) in [
+        (b'a', 256, 256, "Ok"),
+        (b'a', 257, 257, "PartTooLong"),
+        (b'a', 2, 128, "Ok"),
+        (b'a', 2, 130, "TooDeep"),
+        (b'.', 2, 132, "DotPart"),
+        (b'a', 241, 4096, "Ok"),
+        (b'a', 241, 4097, "TooLong"),
+        (b'a', 1, 4097, "TooLong"),
+    ] {
+        let mut text = [fill; 4097];
+        slash_each(&mut text, step);
+        assert_eq!(rt;
+            answer_to(rt.alloc(), &text[..length]),
+            answer,
+            "{length} bytes"
+        );
+    }
 }
 
 #[test]
@@ -135,46 +121,36 @@ fn joins_a_name(rt: HostRuntime) -> Result<(), Fail> {
     let alloc = rt.alloc();
     let root = Path::root(alloc);
     check_join(&rt, alloc, &root, b"a", b"/a")?;
-    check_join(&rt, alloc, &root, b"", b"EmptyPart")?;
     let path = Path::read(alloc, b"/a")?;
-    check_join(&rt, alloc, &path, b"b", b"/a/b")?;
-    check_join(&rt, alloc, &path, b"", b"EmptyPart")?;
-    check_join(&rt, alloc, &path, b"..", b"DotPart")?;
-    check_join(&rt, alloc, &path, b"b/c", b"SlashInName")?;
-    check_join(&rt, alloc, &path, b"\0/", b"SlashInName")?;
-    check_join(&rt, alloc, &path, b"\xff\0", b"NulByte")?;
-    check_join(&rt, alloc, &path, b"\xff", b"NotUtf8")?;
-    check_join(&rt, alloc, &path, &[b'a'; 256], b"PartTooLong")
+    for (name, answer) in [
+        (b"b".as_slice(), b"/a/b".as_slice()),
+        (b"", b"EmptyPart"),
+        (b"..", b"DotPart"),
+        (b"b/c", b"SlashInName"),
+        (b"\0/", b"SlashInName"),
+        (b"\xff\0", b"NulByte"),
+        (b"\xff", b"NotUtf8"),
+        (&[b'a'; 256], b"PartTooLong"),
+    ] {
+        check_join(&rt, alloc, &path, name, answer)?;
+    }
+    Ok(())
 }
 
 #[test]
 fn joins_up_to_the_limits(rt: HostRuntime) -> Result<(), Fail> {
     let alloc = rt.alloc();
-    let mut text = [b'a'; 128];
-    slash_each(&mut text, 2);
-    let deep = Path::read(alloc, text.as_slice())?;
-    assert_eq!(rt; deep.depth(), 64);
-    check_join(&rt, alloc, &deep, b"a", b"TooDeep")?;
-    check_join(&rt, alloc, &deep.prefix(alloc, 63)?, b"a", text.as_slice())?;
-    let mut text = [b'a'; 4096];
-    slash_each(&mut text, 241);
-    let long = Path::read(alloc, text.as_slice())?;
-    assert_eq!(rt; long.depth(), 17);
-    check_join(&rt, alloc, &long, b"a", b"TooLong")?;
-    check_join(
-        &rt,
-        alloc,
-        &long.prefix(alloc, 16)?,
-        &[b'a'; 239],
-        text.as_slice(),
-    )?;
-    check_join(
-        &rt,
-        alloc,
-        &long.prefix(alloc, 16)?,
-        &[b'a'; 240],
-        b"TooLong",
-    )
+    let mut deep = [b'a'; 128];
+    slash_each(&mut deep, 2);
+    let path = Path::read(alloc, &deep)?;
+    check_join(&rt, alloc, &path, b"a", b"TooDeep")?;
+    check_join(&rt, alloc, &path.prefix(alloc, 63)?, b"a", &deep)?;
+    let mut long = [b'a'; 4096];
+    slash_each(&mut long, 241);
+    let path = Path::read(alloc, &long[..3856])?;
+    assert_eq!(rt; path.depth(), 16);
+    check_join(&rt, alloc, &path, &[b'a'; 239], &long)?;
+    check_join(&rt, alloc, &path, &[b'a'; 240], b"TooLong")
 }
 
 #[test]
