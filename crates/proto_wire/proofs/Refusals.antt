@@ -6,7 +6,7 @@ use Rattle.proto_wire.specs.declared.fault.WireFault.{WireFault}
 use Rattle.proto_wire.specs.declared.fault.WireFault.TheVariants.{Truncated, BadVarint, BadTag, BadWireType}
 use Rattle.proto_wire.specs.Text.{IsFieldNumber}
 use Rattle.proto_wire.specs.Field.{ValueText, Varint, Fixed64, Bytes, Fixed32, FieldText, IsVarint, ◌>>=◌, number_within, varint_at, fixed_at, bytes_at, value_at, field_at}
-use Rattle.proto_wire.specs.Refusal.{GoesOn, IsLarge, IsVarintFault, IsShort, IsValueFault, varint, fixed64, count, bytes_short, fixed32, unread, IsRefused}
+use Rattle.proto_wire.specs.Refusal.{GoesOn, IsVarintFault, IsShort, IsValueFault, varint, fixed64, count, bytes_short, fixed32, unread, IsRefused}
 use Rattle.proto_wire.specs.Refusal as refusal
 use Rattle.proto_wire.proofs.Grammar.{IsBytes, chosen, bytes_behind, takes_within, again_within, varint_takes, varint_again}
 

@@ -6,7 +6,7 @@ use Rattle.std.specs.Option.{option_or, option_to_list}
 use Rattle.std.proofs.lemmas.List.Elements.{filter_map-append}
 use Rattle.proto_wire.specs.Taken.{varint_of, bytes_of, number_in, text_in, last_number, last_message, last_text, messages_at}
 use Rattle.proto_wire.specs.declared.fault.WireFault.{WireFault}
-use Rattle.proto_wire.specs.Field.{◌>>=◌, ValueText, Varint, Fixed64, Bytes, Fixed32, FieldText, with_first}
+use Rattle.proto_wire.specs.Field.{◌>>=◌, Varint, Bytes, FieldText, with_first}
 
 -- Those seen before those left
 abbrev pub with_seen : List FieldText → Result (List FieldText) WireFault → Result (List FieldText) WireFault

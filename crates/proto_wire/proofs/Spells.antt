@@ -1,9 +1,9 @@
 -- Texts that were written, as the fields that are read of them.
-use Rattle.std.proofs.Common.{◌≡◌, ℕ, ◌<◌, ◌^◌, Bool, true, false, cond, eqb, List, [], ◌∷◌, ◌++◌, length, Result, Ok, Err, refl, sym, ap, ◌∙◌, subst, inl, inr, arith, append_assoc, append-nil}
+use Rattle.std.proofs.Common.{◌≡◌, ℕ, ◌<◌, ◌^◌, cond, eqb, List, [], ◌∷◌, ◌++◌, length, Result, Ok, Err, refl, sym, ap, ◌∙◌, subst, inl, inr, arith, append_assoc, append-nil}
 use Rattle.std.proofs.lemmas.Bool.Decides.{eqb_tells}
 use Rattle.proto_wire.specs.declared.fault.WireFault.{WireFault}
 use Rattle.proto_wire.specs.Text.{IsFieldNumber, tag_text, varint_text, varint_field, bytes_field, message_field}
-use Rattle.proto_wire.specs.Field.{◌>>=◌, ValueText, Varint, Bytes, FieldText, IsField, fields_of, with_first}
+use Rattle.proto_wire.specs.Field.{ValueText, Varint, Bytes, FieldText, IsField, fields_of}
 use Rattle.proto_wire.proofs.Words.{IsField-varint, IsField-message}
 use Rattle.proto_wire.proofs.Fields.{fields_of-nil, fields_of-field}
 use Rattle.proto_wire.proofs.Seen.{with_seen, with_seen-none}

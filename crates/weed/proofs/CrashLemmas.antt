@@ -1,5 +1,5 @@
 -- What a crash leaves of a session, turn by turn.
-use Rattle.std.proofs.Common.{◌≡◌, ◌⊎◌, inl, inr, ℕ, ◌<◌, ◌≤◌, Bool, List, [], ◌∷◌, ◌++◌, length, Option, Some, None, refl, sym, ap, ◌∙◌, subst, arith, append_assoc}
+use Rattle.std.proofs.Common.{◌≡◌, ◌⊎◌, inl, inr, ℕ, ◌<◌, ◌≤◌, Bool, List, [], ◌∷◌, ◌++◌, length, Option, Some, None, refl, sym, ap, ◌∙◌, subst, arith, append_assoc, append-nil}
 use Rattle.std.specs.Prelude.{MatchOption}
 use Rattle.weed_base.specs.Path.{IsPath, text_of}
 use Rattle.weed_base.specs.PathFaults.{read_fault}
@@ -33,10 +33,6 @@ use Rattle.weed.specs.declared.session.Session.{Session}
 use Rattle.weed.specs.declared.session.Turned.TheVariants.{Ended}
 use Rattle.weed.proofs.HandedLemmas.{sent_either, unsent}
 
-append-nothing : (records : List Record) → records ++ [] ≡ records
-append-nothing [] = refl
-append-nothing (r ∷ records) = ap (λ more. r ∷ more) (append-nothing records)
-
 -- A disk is a log of one list of records.
 pub log_unique : (files : Files) (one other : List Record) → IsRecordLog files one → IsRecordLog files other → one ≡ other
 log_unique files one other kept also =
@@ -56,9 +52,9 @@ near_of : (log added records others : List Record) → (added ≡ []) ⊎ ((more
     → AreNear records others
 near_of log added records others few (inl one) (inl other) = inl (one ∙ sym other)
 near_of log added records others few (inr one) (inr other) = inl (one ∙ sym other)
-near_of log added records others (inl none) (inl one) (inr other) = inl (one ∙ sym (append-nothing log) ∙ sym (other ∙ ap (λ more. log ++ more) none))
+near_of log added records others (inl none) (inl one) (inr other) = inl (one ∙ sym (append-nil log) ∙ sym (other ∙ ap (λ more. log ++ more) none))
 near_of log added records others (inr some) (inl one) (inr other) = inr (inr (some.0, other ∙ ap (λ more. log ++ more) some.1 ∙ ap (λ front. front ++ some.0 ∷ []) (sym one)))
-near_of log added records others (inl none) (inr one) (inl other) = inl (one ∙ ap (λ more. log ++ more) none ∙ append-nothing log ∙ sym other)
+near_of log added records others (inl none) (inr one) (inl other) = inl (one ∙ ap (λ more. log ++ more) none ∙ append-nil log ∙ sym other)
 near_of log added records others (inr some) (inr one) (inl other) = inr (inl (some.0, one ∙ ap (λ more. log ++ more) some.1 ∙ ap (λ front. front ++ some.0 ∷ []) (sym other)))
 
 torn_near : (images : Files → Type 0) (log added : List Record) → (added ≡ []) ⊎ ((more : Record) × (added ≡ more ∷ [])) → ((image : Files) → images image → IsOneOf log (log ++ added) image) → AllNear images
@@ -107,8 +103,8 @@ passed-last first (next ∷ later) = inr (passed-last next later)
 pub answers_add : (old : State) (rest answer : List ℕ) (closes : Bool) (log : List Record) (moments : List ℕ) → Answers old rest answer closes log moments
     → (added : List Record) × (log ≡ old.log ++ added)
 answers_add old rest answer closes log moments (inl replies) = (replies.says.added, replies.log_is)
-answers_add old rest answer closes log moments (inr (inl lacks)) = ([], lacks.log_is ∙ sym (append-nothing old.log))
-answers_add old rest answer closes log moments (inr (inr refuses)) = ([], refuses.log_is ∙ sym (append-nothing old.log))
+answers_add old rest answer closes log moments (inr (inl lacks)) = ([], lacks.log_is ∙ sym (append-nil old.log))
+answers_add old rest answer closes log moments (inr (inr refuses)) = ([], refuses.log_is ∙ sym (append-nil old.log))
 
 begins_so : (image : Files) (log more whole : List Record) → whole ≡ log ++ more → IsRecordLog image whole → BeginsWith log image
 begins_so image log more whole same kept = (more, subst (IsRecordLog image) same kept)
@@ -174,7 +170,7 @@ module _ {D : Type 0} (tick : D → ℕ) (images : D → Files → Type 0) (sinc
       let either = λ (moment : ℕ) (at : IsSentAt (sent now) (length old.sent) moment). sent_either (sent mid) (sent now) (tick now) (length old.sent) moment sends at in
       record {
         more = [];
-        front = sym (append-nothing new.log);
+        front = sym (append-nil new.log);
         early = λ moment at.
             elim (either moment at) as (λ _. moment ≤ tick now) [
               | inl before ↦ absurd (unsent (sent mid) old.sent moment told before)
@@ -184,7 +180,7 @@ module _ {D : Type 0} (tick : D → ℕ) (images : D → Files → Type 0) (sinc
             elim (either moment at) as (λ _. BeginsWith new.log image) [
               | inl before ↦ absurd (unsent (sent mid) old.sent moment told before)
               | inr same ↦
-                  begins_so image new.log [] new.log (sym (append-nothing new.log))
+                  begins_so image new.log [] new.log (sym (append-nil new.log))
                   (keeps_each (images now) new.log keep image (only_now now image (subst (λ m. since now m image) same left)))
             ];
       }
@@ -284,7 +280,7 @@ module _ {D : Type 0} (tick : D → ℕ) (images : D → Files → Type 0) (sinc
   }
 
 rests_add : (old last : State) → Rests old last → (added : List Record) × (last.log ≡ old.log ++ added)
-rests_add old last rests = ([], rests.log ∙ sym (append-nothing old.log))
+rests_add old last rests = ([], rests.log ∙ sym (append-nil old.log))
 
 done_adds : (old last : State) → EndsAfter exit.Done old last → (added : List Record) × (last.log ≡ old.log ++ added)
 done_adds old last (inl ended) = rests_add old last ended.1

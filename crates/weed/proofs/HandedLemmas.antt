@@ -1,5 +1,5 @@
 -- When bytes were handed over, of pieces that were sent one behind another.
-use Rattle.std.proofs.Common.{◌≡◌, ◌⊎◌, inl, inr, ℕ, ◌+◌, ◌-◌, ◌<◌, List, [], ◌∷◌, ◌++◌, length, take, drop, Option, Some, None, refl, sym, ap, ◌∙◌, subst, arith, append_assoc}
+use Rattle.std.proofs.Common.{◌≡◌, ◌⊎◌, inl, inr, ℕ, ◌+◌, ◌-◌, ◌<◌, List, [], ◌∷◌, ◌++◌, length, take, drop, Option, Some, None, refl, sym, ap, ◌∙◌, subst, arith, append_assoc, append-nil}
 use Rattle.std.specs.Prelude.{All}
 use Rattle.std.specs.Option.{option_map}
 use Rattle.std.proofs.lemmas.List.{length-append}
@@ -55,14 +55,10 @@ unsent (Some pieces) bytes moment told handed =
     let within = handed_within pieces (length bytes) moment handed in
     omega (arith, within, ap length same)
 
-append-nothing : {A : Type 0} (xs : List A) → xs ++ [] ≡ xs
-append-nothing [] = refl
-append-nothing (x ∷ xs) = ap (λ more. x ∷ more) (append-nothing xs)
-
 -- No piece was sent.
 pub sends_nothing : (tick : ℕ) (sent : Option (List Piece)) → SendsAt tick sent sent
 sends_nothing tick None = ([], refl, λ k d below. absurd (omega (arith, below)))
-sends_nothing tick (Some pieces) = ([], ap Some (sym (append-nothing pieces)), λ k d below. absurd (omega (arith, below)))
+sends_nothing tick (Some pieces) = ([], ap Some (sym (append-nil pieces)), λ k d below. absurd (omega (arith, below)))
 
 -- One more was sent.
 pub sends_more : (tick later : ℕ) (old mid new : Option (List Piece)) (bytes : List ℕ) → SendsAt tick old mid → later ≡ tick
@@ -90,7 +86,7 @@ pub bytes_grow : (old new : Option (List Piece)) (tick : ℕ) (bytes : List ℕ)
 bytes_grow None new tick bytes more = ap bytes_sent more
 bytes_grow (Some pieces) new tick bytes more =
     let piece : Piece = record { tick = tick; bytes = bytes } in
-    ap bytes_sent more ∙ ap Some (flat_map-append (λ (p : Piece). p.bytes) pieces (piece ∷ []) ∙ ap (λ end. bytes_of pieces ++ end) (flat_map-cons (λ (p : Piece). p.bytes) piece [] ∙ append-nothing bytes))
+    ap bytes_sent more ∙ ap Some (flat_map-append (λ (p : Piece). p.bytes) pieces (piece ∷ []) ∙ ap (λ end. bytes_of pieces ++ end) (flat_map-cons (λ (p : Piece). p.bytes) piece [] ∙ append-nil bytes))
 
 -- First bytes of the rest behind first ones
 pub front_grows : (count : ℕ) (old mid new : Option (List Piece)) (tick : ℕ) (bytes : List ℕ) (done : ℕ) → Appends (bytes_sent old) (bytes_sent mid) (take done bytes)
@@ -101,7 +97,7 @@ front_grows count old mid new tick bytes done first more =
 -- No bytes more
 pub bytes_same : (bytes : Option (List ℕ)) → Appends bytes bytes []
 bytes_same None = refl
-bytes_same (Some bytes) = ap Some (sym (append-nothing bytes))
+bytes_same (Some bytes) = ap Some (sym (append-nil bytes))
 
 -- Pieces were sent behind calls that sent none.
 pub sends_behind : (tick : ℕ) (old mid new : Option (List Piece)) → mid ≡ old → SendsAt tick mid new → SendsAt tick old new

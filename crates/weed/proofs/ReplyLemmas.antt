@@ -1,5 +1,5 @@
 -- From what a command leaves of a filer to what its request is answered.
-use Rattle.std.proofs.Common.{◌≡◌, ℕ, false, List, [], ◌∷◌, ◌++◌, Option, Some, None, Result, Ok, Err, refl, sym, ap, ◌∙◌, subst, inl, inr}
+use Rattle.std.proofs.Common.{◌≡◌, ℕ, false, List, [], ◌∷◌, ◌++◌, Option, Some, None, Result, Ok, Err, refl, sym, ap, ◌∙◌, subst, inl, inr, append-nil}
 use Rattle.std.specs.Prelude.{◌≢◌, IfSome, MatchOption, IsOkUnless}
 use Rattle.weed_base.specs.Path.{IsPath, text_of}
 use Rattle.weed_base.specs.PathFaults.{read_fault}
@@ -76,10 +76,6 @@ gives_made old new clock later filer filer' path moment done reply Moves Tears m
     let says = accepted_says plan path records moments new later filer' reply (Moves records) makes.0 makes.1 answer closes at.1 (images files records told filed) in
     (planned_reply path plan, ap (λ m. reply_to records m path) at.0, says.0, says.1, says.2, says.3)
 
-append-nothing : (records : List Record) → records ++ [] ≡ records
-append-nothing [] = refl
-append-nothing (r ∷ records) = ap (λ more. r ∷ more) (append-nothing records)
-
 pub gives_refused : (old new : Option Files) (clock later : Option (List ℕ)) (filer filer' : PlainFiler) (path : List (List ℕ)) (moment : ℕ) (refusal : Refusal) (reply : Reply) (Moves Tears : List Record → List Record → Type 0)
     → MakesTold old new filer filer' path moment (Err (fault.Refused refusal)) → ImagesTold old filer path moment Moves Tears (Err (fault.Refused refusal)) → Asked clock later moment
     → reply.answer ≡ refused_text Conflict (refusal_text refusal) false → reply.closes ≡ false
@@ -90,7 +86,7 @@ gives_refused old new clock later filer filer' path moment refusal reply Moves T
     let makes = made_told old new filer filer' path moment (Err (fault.Refused refusal)) made files records told filed in
     let says = planned_reply path (Refused refusal) in
     let is : says ≡ reply_to records (first_moment moments) path = ap (planned_reply path) (sym makes.0) ∙ ap (λ m. reply_to records m path) at.0 in
-    (says, is, record { answer = answer; closes = closes }, subst (TellsFiler new filer') (sym (append-nothing records)) makes.1, at.1, subst (Moves records) (sym (append-nothing records)) (images files records told filed))
+    (says, is, record { answer = answer; closes = closes }, subst (TellsFiler new filer') (sym (append-nil records)) makes.1, at.1, subst (Moves records) (sym (append-nil records)) (images files records told filed))
 
 pub gives_no_memory : (old new : Option Files) (clock later : Option (List ℕ)) (filer filer' : PlainFiler) (path : List (List ℕ)) (moment : ℕ) (Moves Tears : List Record → List Record → Type 0)
     → MakesTold old new filer filer' path moment (Err fault.Memory) → ImagesTold old filer path moment Moves Tears (Err fault.Memory) → Asked clock later moment
@@ -164,9 +160,9 @@ gives_fault target fault read Moves Tears log moments told old clock later filer
   bad_path fault,
   fault_is (read_fault (path_text target)) fault read (path_text target) log (first_moment moments) is replies.1 refused,
   replies.0,
-  subst (λ o. TellsFiler o filer (log ++ [])) (sym there) (subst (IsFiled files filer) (sym (append-nothing log)) filed),
+  subst (λ o. TellsFiler o filer (log ++ [])) (sym there) (subst (IsFiled files filer) (sym (append-nil log)) filed),
   left,
-  subst Moves (sym (append-nothing log)) moves,
+  subst Moves (sym (append-nil log)) moves,
 )
 gives_fault target fault read Moves Tears log moments told old clock later filer (Err Memory) is refused replies files there filed left moves =
     (subst (λ o. TellsFiler o filer log) (sym there) filed, inl left, moves)

@@ -1,5 +1,5 @@
 -- A sound log stays sound with what requests add to it.
-use Rattle.std.proofs.Common.{◌≡◌, inl, inr, ℕ, Bool, List, [], ◌∷◌, ◌++◌, Option, Some, None, refl, sym, ap, subst}
+use Rattle.std.proofs.Common.{◌≡◌, inl, inr, ℕ, Bool, List, [], ◌∷◌, ◌++◌, Option, Some, None, refl, sym, ap, subst, append-nil}
 use Rattle.std.specs.Prelude.{MatchOption}
 use Rattle.weed_base.specs.Path.{IsPath, text_of}
 use Rattle.weed_base.specs.PathFaults.{read_fault}
@@ -17,12 +17,8 @@ use Rattle.weed.specs.Crash.{IsPassed, IsOfRun}
 use Rattle.weed.specs.declared.exit.Exit.{Exit}
 use Rattle.weed.specs.declared.exit.Exit.TheVariants as exit
 
-append-nothing : (records : List Record) → records ++ [] ≡ records
-append-nothing [] = refl
-append-nothing (r ∷ records) = ap (λ more. r ∷ more) (append-nothing records)
-
 nothing_sound : (log : List Record) → IsSound log → IsSound (log ++ [])
-nothing_sound log sound = subst IsSound (sym (append-nothing log)) sound
+nothing_sound log sound = subst IsSound (sym (append-nil log)) sound
 
 planned_sound : (log : List Record) (path : List (List ℕ)) (moment : ℕ) (plan : Planned) → plan_of (fold log) (MakeDir path) moment (last_time log) ≡ plan → IsSound log
     → IsSound (log ++ (planned_reply path plan).added)

@@ -1,6 +1,6 @@
 -- Names of files: 1 to 64 bytes of a small alphabet.
-use Rattle.std.specs.Prelude.{ℕ, Bool, List, length, nat_le, ◌==◌, ◌&&◌, ◌||◌, codes}
-use Rattle.std.specs.List.{list_all, list_any}
+use Rattle.std.specs.Prelude.{ℕ, Bool, List, length, nat_le, ◌==◌, ◌&&◌, ◌||◌}
+use Rattle.std.specs.List.{list_all}
 
 -- `a` to `z`, `0` to `9`, `.` or `_`
 abbrev pub is_file_byte : ℕ → Bool

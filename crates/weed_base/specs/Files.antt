@@ -1,5 +1,5 @@
 -- What a disk reads: named files, and what each call makes of them.
-use Rattle.std.specs.Prelude.{◌≡◌, ℕ, ◌+◌, ◌-◌, ◌^◌, ◌≤◌, ◌<◌, min, max, List, [], ◌++◌, length, take, drop, ⊤, None, Some, Option, IsSome, IsSomeAnd, IsTrue, MatchResult, Result, Bool, true, nat_eq, codes, ◌⊎◌, unwrap_or}
+use Rattle.std.specs.Prelude.{◌≡◌, ℕ, ◌+◌, ◌-◌, ◌≤◌, min, max, List, [], ◌++◌, length, take, drop, ⊤, None, Some, Option, IsSome, IsSomeAnd, IsTrue, MatchResult, Result, Bool, true, nat_eq, codes, ◌⊎◌, unwrap_or}
 use Rattle.std.specs.List.{starts_with}
 use Rattle.std.specs.Ordering.{nat_cmp}
 use Rattle.std.specs.Cmp.Lexicographic.{slice_cmp}

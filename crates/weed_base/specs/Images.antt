@@ -3,7 +3,7 @@
 -- Between two syncs each written range, and what was written past the end of a file, may hold any bytes after a
 -- crash; what stands past that end may be shorter or missing too. A name that was made, removed or renamed, and
 -- a cut, stands as before or as after, whole. After a sync that answered Ok a crash leaves what reads give.
-use Rattle.std.specs.Prelude.{◌≡◌, ℕ, ◌+◌, ◌≤◌, ◌⊎◌, min, max, List, length, take, drop, Option, None, Some, OnOk, Result}
+use Rattle.std.specs.Prelude.{◌≡◌, ℕ, ◌+◌, ◌≤◌, ◌⊎◌, min, max, List, length, take, drop, Option, None, Some}
 use Rattle.std.specs.Option.{option_map_or}
 use Rattle.std.specs.FinMap.{get, insert}
 use Rattle.weed_base.specs.Told.{raised}

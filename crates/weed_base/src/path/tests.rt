@@ -140,17 +140,19 @@ fn joins_a_name(rt: HostRuntime) -> Result<(), Fail> {
 #[test]
 fn joins_up_to_the_limits(rt: HostRuntime) -> Result<(), Fail> {
     let alloc = rt.alloc();
-    let mut deep = [b'a'; 128];
-    slash_each(&mut deep, 2);
-    let path = Path::read(alloc, &deep)?;
-    check_join(&rt, alloc, &path, b"a", b"TooDeep")?;
-    check_join(&rt, alloc, &path.prefix(alloc, 63)?, b"a", &deep)?;
-    let mut long = [b'a'; 4096];
-    slash_each(&mut long, 241);
-    let path = Path::read(alloc, &long[..3856])?;
-    assert_eq!(rt; path.depth(), 16);
-    check_join(&rt, alloc, &path, &[b'a'; 239], &long)?;
-    check_join(&rt, alloc, &path, &[b'a'; 240], b"TooLong")
+    let mut text = [b'a'; 128];
+    slash_each(&mut text, 2);
+    let deep = Path::read(alloc, text.as_slice())?;
+    assert_eq!(rt; deep.depth(), 64);
+    check_join(&rt, alloc, &deep, b"a", b"TooDeep")?;
+    check_join(&rt, alloc, &deep.prefix(alloc, 63)?, b"a", text.as_slice())?;
+    let mut text = [b'a'; 4096];
+    slash_each(&mut text, 241);
+    let long = Path::read(alloc, text.as_slice())?;
+    assert_eq!(rt; long.depth(), 17);
+    let short = long.prefix(alloc, 16)?;
+    check_join(&rt, alloc, &short, &[b'a'; 239], text.as_slice())?;
+    check_join(&rt, alloc, &short, &[b'a'; 240], b"TooLong")
 }
 
 #[test]
