@@ -150,6 +150,3 @@ impl PlainFiler {
         Ok(())
     }
 }
-
-#[cfg(test)]
-mod tests;

@@ -93,8 +93,6 @@ fn is_host_byte(byte: u8) -> bool
 #[cfg(test)]
 mod tests {
     use super::*;
-    use std::alloc::{AllocError, Global};
-    use std::test::Fail;
 
     #[test]
     fn targets_are_read(rt: HostRuntime) {
@@ -138,21 +136,5 @@ mod tests {
         for text in table {
             assert_eq!(rt; read_request(text.as_bytes()), None, "{text:?}");
         }
-    }
-
-    /// A request of so many bytes.
-    fn request_of(alloc: Global, length: usize) -> Result<String, AllocError> {
-        let part = "a".repeat(alloc, length.saturating_sub(20))?;
-        format!(in alloc; "POST /{part}/ HTTP/1.1\r\n\r\n")
-    }
-
-    #[test]
-    fn a_head_has_at_most_16384_bytes(rt: HostRuntime) -> Result<(), Fail> {
-        for (length, is_read) in [(16_384, true), (16_385, false)] {
-            let text = request_of(rt.alloc(), length)?;
-            assert_eq!(rt; text.len(), length);
-            assert_eq!(rt; read_request(text.as_bytes()).is_some(), is_read);
-        }
-        Ok(())
     }
 }

@@ -10,6 +10,14 @@ const MADE: &str =
 const DISK_FAULT: &str =
     "HTTP/1.1 500 Internal Server Error\r\nContent-Type: application/json\r\nContent-Length: 21\r\nConnection: close\r\n\r\n{\"error\":\"DiskFault\"}";
 
+/// The file of a log with the one record that makes `/a` and `/a/b` five seconds after 1970.
+const ONE_RECORD: [u8; 59] = [
+    0x01, 0x00, 0x00, 0x00, 0x35, 0x08, 0x80, 0xe4, 0x97, 0xd0, 0x12, 0x12, 0x15, 0x0a, 0x01, b'/',
+    0x12, 0x10, 0x12, 0x0e, 0x0a, 0x01, b'a', 0x10, 0x01, 0x22, 0x07, 0x10, 0x05, 0x18, 0xed, 0x03,
+    0x30, 0x05, 0x12, 0x16, 0x0a, 0x02, b'/', b'a', 0x12, 0x10, 0x12, 0x0e, 0x0a, 0x01, b'b', 0x10,
+    0x01, 0x22, 0x07, 0x10, 0x05, 0x18, 0xed, 0x03, 0x30, 0x05, 0x00,
+];
+
 /// What a run over memory left.
 #[derive(Drop)]
 struct Ran {
@@ -36,6 +44,19 @@ fn source_of(alloc: Global, input: &[u8]) -> Result<MemSource, Fail> {
 
 fn empty_disk(alloc: Global) -> Result<MemDisk, Fail> {
     Ok(MemDisk::new(alloc, Vec::new(alloc), Vec::new(alloc))?)
+}
+
+/// The files of a run's disk, on a disk that doesn't fail.
+fn disk_after(alloc: Global, ran: &Ran) -> Result<MemDisk, Fail> {
+    let mut files = Vec::new(alloc);
+    for text in [b"log.00000001".as_slice(), b"log.00000001.on"] {
+        let name = FileName::new(text).ok_or("a name")?;
+        if let Some(bytes) = ran.host.disk().content(&name) {
+            let bytes = Bytes::new(alloc, bytes)?;
+            files.push(NamedBytes { name, bytes })?;
+        }
+    }
+    Ok(MemDisk::new(alloc, files, Vec::new(alloc))?)
 }
 
 /// Runs `filer.once` over a clock of three moments.
@@ -67,11 +88,16 @@ fn run_once(alloc: Global, input: &[u8]) -> Result<Ran, Fail> {
 }
 
 #[test]
-fn a_directory_is_made_and_answered(rt: HostRuntime) -> Result<(), Fail> {
-    let ran = run_once(rt.alloc(), MAKE)?;
-    assert_eq!(rt; ran.sent(), MADE.as_bytes());
-    assert_eq!(rt; ran.status, 0);
-    assert_eq!(rt; ran.log()?.len(), 59);
+fn a_directory_is_made_and_answered_once_in_two_runs(rt: HostRuntime) -> Result<(), Fail> {
+    let alloc = rt.alloc();
+    let first = run_once(alloc, MAKE)?;
+    assert_eq!(rt; first.sent(), MADE.as_bytes());
+    assert_eq!(rt; first.status, 0);
+    assert_eq!(rt; first.log()?, ONE_RECORD.as_slice());
+    let disk = disk_after(alloc, &first)?;
+    let second = run_over(alloc, source_of(alloc, MAKE)?, disk, [6_000_000_000; 3])?;
+    assert_eq!(rt; second.sent(), MADE.as_bytes());
+    assert_eq!(rt; second.log()?, ONE_RECORD.as_slice());
     Ok(())
 }
 
@@ -204,19 +230,6 @@ fn times_rise_past_a_clock_that_stands_or_falls(rt: HostRuntime) -> Result<(), F
     )?;
     assert_eq!(rt; falling.log()?, rising.log()?);
     Ok(())
-}
-
-/// The files of a run's disk, on a disk that doesn't fail.
-fn disk_after(alloc: Global, ran: &Ran) -> Result<MemDisk, Fail> {
-    let mut files = Vec::new(alloc);
-    for text in [b"log.00000001".as_slice(), b"log.00000001.on"] {
-        let name = FileName::new(text).ok_or("a name")?;
-        if let Some(bytes) = ran.host.disk().content(&name) {
-            let bytes = Bytes::new(alloc, bytes)?;
-            files.push(NamedBytes { name, bytes })?;
-        }
-    }
-    Ok(MemDisk::new(alloc, files, Vec::new(alloc))?)
 }
 
 /// Runs the first request over a disk of which that call fails.
