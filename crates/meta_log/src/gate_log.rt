@@ -1,4 +1,4 @@
-ghost use Rattle.std.specs.Prelude.{◌≡◌, ◌<◌, ◌+◌, ◌-◌, ◌^◌, ◌++◌, ◌∷◌, [], List, ℕ, IfOk, OnOk, IfErr, OnErr, IsErrOf, IfSome, None, Some};
+ghost use Rattle.std.specs.Prelude.{◌≡◌, ◌≤◌, ◌<◌, ◌+◌, ◌-◌, ◌^◌, ◌++◌, ◌∷◌, [], List, ℕ, IfOk, OnOk, IfErr, OnErr, IsErrOf, IfSome, None, Some};
 ghost use Rattle.weed_base.specs.Told.{HasCause, IsCauseOf};
 ghost use Rattle.weed_base.specs.Files.{BothTold, Files};
 ghost use Rattle.weed_base.specs.Images.{LeavesOnly, OnlyReads};
@@ -57,7 +57,8 @@ impl GateLog {
         Ok(GateLog { stem, gate })
     }
 
-    /// Adds a payload. Takes no memory. After `Failed` the log is to be opened again.
+    /// Adds a payload, by four calls of the disk at most. Takes no memory. After `Failed` the log is to be opened
+    /// again.
     pub fn append<D: Disk>(&mut self, disk: &mut D, text: &GateText) -> Result<(), Failed>
         requires held { Holds (D.files disk.old) self.old }
         requires suits { Suits (stem_of self.old) text.now }
@@ -78,6 +79,7 @@ impl GateLog {
         ensures settled { OnOk result ((files : Files) (payloads : List (List ℕ)) → D.files disk.old ≡ Some files → IsHeld files self.old payloads
             → ImagesHold (stem_of self.old) (D.images disk.new) (payloads ++ text.now ∷ [])) }
 
+        ensures calls { D.tick disk.new ≤ D.tick disk.old + 4 }
         ensures others { BothTold (ChangesOnly (segment_name (stem_of self.old) 1)) (D.files disk.old) (D.files disk.new) }
         ensures cause { HasCause (D.faults disk.old) (D.faults disk.new) result }
         ensures sent { (D.sent disk.new ≡ D.sent disk.old) × (D.send_faults disk.new ≡ D.send_faults disk.old) }

@@ -78,8 +78,8 @@ impl MetaLog {
         })
     }
 
-    /// Adds a record's text, with its time, which is past the last. Takes no memory. After `Failed` the log
-    /// is to be opened again.
+    /// Adds a record's text, with its time, which is past the last, by four calls of the disk at most. Takes no
+    /// memory. After `Failed` the log is to be opened again.
     pub fn append<D: Disk>(
         &mut self,
         disk: &mut D,
@@ -105,6 +105,7 @@ impl MetaLog {
         ensures settled { OnOk result ((files : Files) (records : List Record) (known : Record) → D.files disk.old ≡ Some files → IsKept files self.old records
             → ReadsAs text.now known → known.time ≡ time → ImagesKeep (D.images disk.new) (records ++ known ∷ [])) }
 
+        ensures calls { D.tick disk.new ≤ D.tick disk.old + 4 }
         ensures others { BothTold (ChangesOnly (segment_name Log 1)) (D.files disk.old) (D.files disk.new) }
         ensures cause { HasCause (D.faults disk.old) (D.faults disk.new) result }
         ensures sent { (D.sent disk.new ≡ D.sent disk.old) × (D.send_faults disk.new ≡ D.send_faults disk.old) }
