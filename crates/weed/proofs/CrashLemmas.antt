@@ -256,12 +256,12 @@ module _ {D : Type 0} (tick : D → ℕ) (images : D → Files → Type 0) (sinc
           | inl before ↦ inl (keeps_each (images mid) (last_of first path).log keeping.settled image (only_now mid image before))
           | inr one ↦ one
         ] in
-        let held = all_held log leads.2.added leads.5 leaves present sends in
+        let held = all_held log leads.1.added leads.4 leaves present sends in
         record {
           leaves = turn_leaves (IsOfRun exit.DiskFault first path last) log (λ passed of_path. inl of_path) (inr leads) leaves;
           answers = record { whole = kept_steps log held; begun = λ other. absurd (other refl) };
-          near = torn_near (images now) (last_of first path).log leads.2.added (reply_adds (last_of first path).log (first_moment (last_of first path).moments) leads.0 leads.2 leads.4)
-              (λ image left. subst (λ (to : List Record). IsOneOf (last_of first path).log to image) leads.5 (present image left));
+          near = torn_near (images now) (last_of first path).log leads.1.added (reply_adds (last_of first path).log (first_moment (last_of first path).moments) leads.0 leads.1 leads.3)
+              (λ image left. subst (λ (to : List Record). IsOneOf (last_of first path).log to image) leads.4 (present image left));
         }
 
   -- a session ends as it has answered all that it answers at most
@@ -284,7 +284,7 @@ rests_add old last rests = ([], rests.log ∙ sym (append-nil old.log))
 
 done_adds : (old last : State) → EndsAfter exit.Done old last → (added : List Record) × (last.log ≡ old.log ++ added)
 done_adds old last (inl ended) = rests_add old last ended.1
-done_adds old last (inr closed) = answers_add old closed.1 closed.0 _ last.log last.moments closed.2
+done_adds old last (inr closed) = answers_add old last.left closed.0 _ last.log last.moments closed.1
 
 -- How a turn ends is how the session ends.
 pub ends_after : {D : Type 0} (tick : D → ℕ) (images : D → Files → Type 0) (since : D → ℕ → Files → Type 0) (sent : D → Option (List Piece))
@@ -295,7 +295,7 @@ pub ends_after : {D : Type 0} (tick : D → ℕ) (images : D → Files → Type 
     → (ImagesKeep (images start) first.log → Keeping tick images since sent start mid first path)
     → bytes_sent (sent mid) ≡ Some (last_of first path).sent → SendsAt (tick now) (sent mid) (sent now)
     → Leads (last_of first path) (Settling tick images since mid now (last_of first path).log) (Tearing tick images since mid now (last_of first path).log) left bytes files moments session (Ended end)
-    → (path : List State) × (last : State) × Stands bytes files moments last × Ends end first path last
+    → (path : List State) × (last : State) × Stands left bytes files moments last × Ends end first path last
     × (ImagesKeep (images start) first.log → Withstands tick images since sent start now end first path last)
 ends_after tick images since sent only_now counts_now start mid now exit.Done first path left bytes files moments session turns few keeping told sends leads =
     let added = done_adds (last_of first path) leads.0 leads.2 in
@@ -304,7 +304,7 @@ ends_after tick images since sent only_now counts_now start mid now exit.ReadFau
     let added = rests_add (last_of first path) leads.0 leads.2 in
     (path, leads.0, leads.1, (turns, few, leads.2), λ keep. settled_ends tick images since sent only_now start mid now first path (keeping keep) exit.ReadFault leads.0 added.0 added.1 refl leads.3 sends told)
 ends_after tick images since sent only_now counts_now start mid now exit.WriteFault first path left bytes files moments session turns few keeping told sends leads =
-    let added = answers_add (last_of first path) leads.2.1 leads.2.0 leads.2.2 leads.0.log leads.0.moments leads.2.4 in
+    let added = answers_add (last_of first path) leads.0.left leads.2.0 leads.2.1 leads.0.log leads.0.moments leads.2.3 in
     (path, leads.0, leads.1, (turns, few, leads.2), λ keep. settled_ends tick images since sent only_now start mid now first path (keeping keep) exit.WriteFault leads.0 added.0 added.1 refl leads.3 sends told)
 ends_after tick images since sent only_now counts_now start mid now exit.DiskFault first path left bytes files moments session turns few keeping told sends leads =
     (path, leads.0, leads.1, (turns, few, leads.2), λ keep. torn_ends tick images since sent only_now start mid now first path (keeping keep) counts_now leads.0 leads.3.0 leads.3.1 leads.3.2 sends)

@@ -18,15 +18,24 @@ use Rattle.weed.specs.declared.exit.Exit.TheVariants as exit
 use Rattle.weed.specs.declared.session.Session.{Session}
 use Rattle.weed.specs.declared.plain_filer.PlainFiler.{PlainFiler}
 
+some_same : {A : Type 0} (a b : A) → Some a ≡ Some b → a ≡ b
+some_same a b e = cc
+
 filed_tells : (old new : Option Files) (filer : PlainFiler) (log : List Record) → IsSomeAnd old (λ told. IsRecordLog told log) → IfSome old (λ files. IsFiledFrom files new filer) → TellsFiler new filer log
 filed_tells None new filer log there filed = absurd there
 filed_tells (Some files) new filer log there filed = filed.holds log there
+
+-- A session began over a log.
+pub found_log : (old new : Option Files) (session : Session) (files : Files) → old ≡ Some files → Begins old new session → (records : List Record) × IsRecordLog files records
+found_log None new session files told begins = cc
+found_log (Some before) new session files told begins =
+    subst (λ (disk : Files). (records : List Record) × IsRecordLog disk records) (some_same before files told) begins.filed.found
 
 -- A session that has begun tells the state that the run started from.
 pub begun_tells : (left sent sent' : Option (List ℕ)) (old new : Option Files) (clock : Option (List ℕ)) (session : Session) (first : State)
     → Starts left sent old clock first → Begins old new session → sent' ≡ sent → Tells left sent' new clock session first
 begun_tells left sent sent' old new clock session first starts begins same = record {
-  left_is = ap (λ pending. left_of pending left) begins.empty ∙ ap (left_of []) starts.left_is;
+  left_is = ap (λ pending. left_of pending left) begins.empty ∙ ap (left_of []) starts.unread;
   sent_is = same ∙ starts.stands.sent_is;
   filer = filed_tells old new session.filer first.log starts.stands.log_is begins.filed;
   moments_are = starts.stands.moments_are;
@@ -41,8 +50,9 @@ still_log R (Some files) (Some files') log both kept there = kept there
 -- What ended before its session leaves what it started from.
 pub early_stands : (R : Files → Files → Type 0) (left sent sent' : Option (List ℕ)) (old new : Option Files) (clock : Option (List ℕ)) (first : State)
     → Starts left sent old clock first → BothTold R old new → ((records : List Record) → HoldsRecordLog old records → HoldsRecordLog new records) → sent' ≡ sent
-    → Stands sent' new clock first
+    → Stands left sent' new clock first
 early_stands R left sent sent' old new clock first starts both kept same = record {
+  left_is = starts.stands.left_is;
   sent_is = same ∙ starts.stands.sent_is;
   log_is = still_log R old new first.log both (kept first.log) starts.stands.log_is;
   moments_are = starts.stands.moments_are;

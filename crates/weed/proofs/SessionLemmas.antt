@@ -18,7 +18,7 @@ use Rattle.std.proofs.Math.Seq.{take-length}
 use Rattle.weed.specs.Filer.{IsFiled, TellsFiler, TellsEither}
 use Rattle.weed.specs.Reply.{moments_after}
 use Rattle.weed.specs.Replied.{Gives}
-use Rattle.weed.specs.Session.{State, Requests, Answers, Rests, Stands, memory_answer, disk_answer, not_yet_answer}
+use Rattle.weed.specs.Session.{State, Requests, Answers, Rests, Stands, HasLeft, memory_answer, disk_answer, not_yet_answer}
 use Rattle.weed.specs.Tells.{Tells, Asking, Sends, Leads}
 use Rattle.weed.specs.declared.exit.Exit.TheVariants as exit
 use Rattle.weed.specs.declared.plain_filer.PlainFiler.{PlainFiler}
@@ -69,14 +69,14 @@ sent_leads old rest answer closes log moments Moves Tears left sent sent' files 
     )
 sent_leads old rest answer closes log moments Moves Tears left sent sent' files clock session (Ended exit.Done) answers told sends left_is filer clock_is moves = (
   record { left = rest; sent = old.sent ++ answer; log = log; moments = moments },
-  record { sent_is = appended_told sent sent' old.sent answer told sends.0; log_is = filer_is_log files session.filer log filer; moments_are = clock_is },
-  inr (answer, rest, subst (λ b. Answers old rest answer b log moments) sends.1 answers, refl),
+  record { left_is = (session.inbox.pending, left_is); sent_is = appended_told sent sent' old.sent answer told sends.0; log_is = filer_is_log files session.filer log filer; moments_are = clock_is },
+  inr (answer, subst (λ b. Answers old rest answer b log moments) sends.1 answers, refl),
   moves,
 )
 sent_leads old rest answer closes log moments Moves Tears left sent sent' files clock session (Ended exit.WriteFault) answers told sends left_is filer clock_is moves = (
   record { left = rest; sent = old.sent ++ take sends.0 answer; log = log; moments = moments },
-  record { sent_is = appended_told sent sent' old.sent (take sends.0 answer) told sends.1; log_is = filer_is_log files session.filer log filer; moments_are = clock_is },
-  (answer, rest, closes, sends.0, answers, refl),
+  record { left_is = (session.inbox.pending, left_is); sent_is = appended_told sent sent' old.sent (take sends.0 answer) told sends.1; log_is = filer_is_log files session.filer log filer; moments_are = clock_is },
+  (answer, closes, sends.0, answers, refl),
   moves,
 )
 sent_leads old rest answer closes log moments Moves Tears left sent sent' files clock session (Ended exit.ReadFault) answers told sends left_is filer clock_is moves = absurd sends
@@ -165,17 +165,18 @@ pub faulted_leads : {T E : Type 0} (Moves Tears Sent Torn : List Record → List
     → TellsFiler files session.filer old.log → clock ≡ Some old.moments
     → sent ≡ Some old.sent → sent' ≡ sent → files'' ≡ files' → answer ≡ disk_answer
     → WritesAll sent' sent'' result answer
+    → left_of session'.inbox.pending left ≡ Some rest
     → Leads old (Sent old.log) (Torn old.log) left sent'' files'' clock' session' (Ended exit.DiskFault)
-faulted_leads Moves Tears Sent Torn old rest target left sent sent' sent'' files files' files'' clock clock' session session' answer result asked gives tearing tells clock_is sent_is same_sent same_files answer_is writes =
+faulted_leads Moves Tears Sent Torn old rest target left sent sent' sent'' files files' files'' clock clock' session session' answer result asked gives tearing tells clock_is sent_is same_sent same_files answer_is writes left_is =
     let given = gave Moves Tears old target files files' clock clock' session.filer session'.filer (Err DiskFault) gives tells clock_is in
     let says = given.0 in
     let front = written_front sent' sent'' result answer writes in
     let log = either_is_log files' old.log says.added given.2 in
     let sent_now = appended_told sent' sent'' old.sent (take front.0 answer) (same_sent ∙ sent_is) front.1 in (
       record { left = rest; sent = old.sent ++ take front.0 answer; log = log.0; moments = moments_after says old.moments },
-      record { sent_is = sent_now; log_is = subst (λ o. IsSomeAnd o (λ told. IsRecordLog told log.0)) (sym same_files) log.1; moments_are = given.3 },
-      (target, rest, says, front.0, asked, given.1, ap (λ bytes. old.sent ++ take front.0 bytes) answer_is, log.2, refl),
-      (old.log ++ says.added, (target, rest, says, asked, given.1, refl), tearing old.log (old.log ++ says.added) given.4),
+      record { left_is = (session'.inbox.pending, left_is); sent_is = sent_now; log_is = subst (λ o. IsSomeAnd o (λ told. IsRecordLog told log.0)) (sym same_files) log.1; moments_are = given.3 },
+      (target, says, front.0, asked, given.1, ap (λ bytes. old.sent ++ take front.0 bytes) answer_is, log.2, refl),
+      (old.log ++ says.added, (target, says, asked, given.1, refl), tearing old.log (old.log ++ says.added) given.4),
     )
 
 -- What was found in front of the input
@@ -210,25 +211,29 @@ refused_leads Moves Tears old left left' sent sent' files files' clock session s
     tells.sent_is sends (found.1 ∙ tells.left_is)
     (subst (λ filer. TellsFiler files' filer old.log) (sym same) (subst (λ o. TellsFiler o session.filer old.log) (sym same_files) tells.filer)) tells.moments_are moves
 
-pub rests : (old : State) (left sent : Option (List ℕ)) (files : Option Files) (clock : Option (List ℕ)) (session : Session)
-    → Tells left sent files clock session old → Stands sent files clock old
-rests old left sent files clock session tells = record { sent_is = tells.sent_is; log_is = filer_is_log files session.filer old.log tells.filer; moments_are = tells.moments_are }
+-- A state still stands once no more than its input was read.
+pub rests : (old : State) (left left' sent : Option (List ℕ)) (files : Option Files) (clock : Option (List ℕ)) (session : Session)
+    → Tells left sent files clock session old → HasLeft left' old.left → Stands left' sent files clock old
+rests old left left' sent files clock session tells has =
+    record { left_is = has; sent_is = tells.sent_is; log_is = filer_is_log files session.filer old.log tells.filer; moments_are = tells.moments_are }
 
-same_rests : (old : State) → Rests old old
-same_rests old = record { sent = refl; log = refl; moments = refl }
+pub same_rests : (old : State) → Rests old old
+same_rests old = record { left = refl; sent = refl; log = refl; moments = refl }
 
 at_end : (old : List ℕ) (told : Option (List ℕ)) → told ≡ Some old → IsAtEnd told → old ≡ []
 at_end old told is end =
     let none : Some old ≡ Some [] = sym is ∙ end ∙ ap (option_map (λ _. [])) is in some_same old [] none
 
-pub ended_leads : (Moves Tears : List Record → Type 0) (old : State) (left left' left'' sent : Option (List ℕ)) (files : Option Files) (clock : Option (List ℕ)) (session session' : Session) (head : Head)
+pub ended_leads : (Moves Tears : List Record → Type 0) (old : State) (left left' sent : Option (List ℕ)) (files : Option Files) (clock : Option (List ℕ)) (session session' : Session) (head : Head)
     → Tells left sent files clock session old → head ≡ End
-    → Finds head (left_of session.inbox.pending left) left'' session'.inbox.target → Moves old.log
+    → Finds head (left_of session.inbox.pending left) (left_of session'.inbox.pending left') session'.inbox.target → Moves old.log
     → Leads old Moves Tears left' sent files clock session' (Ended exit.Done)
-ended_leads Moves Tears old left left' left'' sent files clock session session' head tells is finds moves =
-    let found = subst (λ (h : Head). Finds h (left_of session.inbox.pending left) left'' session'.inbox.target) is finds in
-    (old, rests old left sent files clock session tells, inl (at_end old.left (left_of session.inbox.pending left) tells.left_is found.0, same_rests old), moves)
+ended_leads Moves Tears old left left' sent files clock session session' head tells is finds moves =
+    let found = subst (λ (h : Head). Finds h (left_of session.inbox.pending left) (left_of session'.inbox.pending left') session'.inbox.target) is finds in
+    (old, rests old left left' sent files clock session tells (session'.inbox.pending, found.1 ∙ tells.left_is), inl (at_end old.left (left_of session.inbox.pending left) tells.left_is found.0, same_rests old), moves)
 
 pub unread_leads : (Moves Tears : List Record → Type 0) (old : State) (left left' sent : Option (List ℕ)) (files : Option Files) (clock : Option (List ℕ)) (session session' : Session)
-    → Tells left sent files clock session old → Moves old.log → Leads old Moves Tears left' sent files clock session' (Ended exit.ReadFault)
-unread_leads Moves Tears old left left' sent files clock session session' tells moves = (old, rests old left sent files clock session tells, same_rests old, moves)
+    → Tells left sent files clock session old → left_of session'.inbox.pending left' ≡ left_of session.inbox.pending left → Moves old.log
+    → Leads old Moves Tears left' sent files clock session' (Ended exit.ReadFault)
+unread_leads Moves Tears old left left' sent files clock session session' tells same moves =
+    (old, rests old left left' sent files clock session tells (session'.inbox.pending, same ∙ tells.left_is), same_rests old, moves)

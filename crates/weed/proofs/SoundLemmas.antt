@@ -60,13 +60,13 @@ rests_sound old last rests sound = subst IsSound (sym rests.log) sound
 
 done_sound : (old last : State) → EndsAfter exit.Done old last → IsSound old.log → IsSound last.log
 done_sound old last (inl ended) sound = rests_sound old last ended.1 sound
-done_sound old last (inr closed) sound = answers_sound old closed.1 closed.0 _ last.log last.moments closed.2 sound
+done_sound old last (inr closed) sound = answers_sound old last.left closed.0 _ last.log last.moments closed.1 sound
 
 ended_sound : (end : Exit) (old last : State) (log : List Record) → EndsAfter end old last → LeadsTo end old last log → IsSound old.log → IsSound log
 ended_sound exit.Done old last log ends leads sound = subst IsSound (sym leads) (done_sound old last ends sound)
 ended_sound exit.ReadFault old last log ends leads sound = subst IsSound (sym leads) (rests_sound old last ends sound)
-ended_sound exit.WriteFault old last log ends leads sound = subst IsSound (sym leads) (answers_sound old ends.1 ends.0 ends.2 last.log last.moments ends.4 sound)
-ended_sound exit.DiskFault old last log ends leads sound = subst IsSound (sym leads.5) (reply_sound old.log (first_moment old.moments) leads.0 leads.2 leads.4 sound)
+ended_sound exit.WriteFault old last log ends leads sound = subst IsSound (sym leads) (answers_sound old last.left ends.0 ends.1 last.log last.moments ends.3 sound)
+ended_sound exit.DiskFault old last log ends leads sound = subst IsSound (sym leads.4) (reply_sound old.log (first_moment old.moments) leads.0 leads.1 leads.3 sound)
 ended_sound (exit.BadWords place) old last log ends leads sound = absurd ends
 ended_sound (exit.Damaged file at) old last log ends leads sound = absurd ends
 ended_sound exit.Memory old last log ends leads sound = absurd ends

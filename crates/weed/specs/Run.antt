@@ -8,6 +8,7 @@ use Rattle.weed_base.specs.Files.{Files}
 use Rattle.weed.specs.Session.{State, Rests, Stands}
 use Rattle.weed.specs.Tells.{Ends}
 use Rattle.weed.specs.Crash.{IsOfRun}
+use Rattle.weed_base.specs.Sent.{Piece}
 use Rattle.name_core.specs.declared.change.Record.{Record}
 use Rattle.weed.specs.declared.exit.Exit.{Exit}
 use Rattle.weed.specs.declared.exit.Exit.TheVariants as exit
@@ -15,8 +16,8 @@ use Rattle.weed.specs.declared.exit.Exit.TheVariants as exit
 -- The outside is told, and has this of a state: the input, what was sent, the log that the disk reads as, and
 -- the moments to come.
 pub record Starts (left sent : Option (List ℕ)) (files : Option Files) (moments : Option (List ℕ)) (state : State) : Type 0 where
-  pub left_is : left ≡ Some state.left
-  pub stands : Stands sent files moments state
+  pub unread : left ≡ Some state.left
+  pub stands : Stands left sent files moments state
 
 -- A session has begun: nothing is read yet, and it has a filer of the records that the disk had.
 pub record Begins (old new : Option Files) (session : Session) : Type 0 where
@@ -39,6 +40,12 @@ IsEarly exit.ReadFault = ⊥
 IsEarly exit.WriteFault = ⊥
 IsEarly exit.TurnsSpent = ⊥
 IsEarly (exit.BadWords place) = ⊥
+
+-- A run ended before its session: it read nothing and sent nothing.
+pub record EndsUnread (end : Exit) (sent sent' : Option (List Piece)) (left left' : Option (List ℕ)) : Type 0 where
+  pub early : IsEarly end
+  pub unsent : sent' ≡ sent
+  pub unread : left' ≡ left
 
 -- A run ends as its session does, or before it. `Leaves` tells what came of it where its own logs are these: those
 -- of its session, or none.

@@ -5,7 +5,7 @@ use Rattle.weed_base.specs.Moments.{first_moment, later_moments}
 use Rattle.name_core.specs.declared.change.Record.{Record}
 use Rattle.meta_log.specs.Kept.{IsRecordLog}
 use Rattle.weed.specs.Request.{IsRequest}
-use Rattle.weed.specs.Inbox.{IsNoRequest}
+use Rattle.weed.specs.Inbox.{left_of, IsNoRequest}
 use Rattle.weed.specs.Reply.{Answering, IsReply, moments_after}
 use Rattle.weed.specs.Answer.{refused_text}
 use Rattle.weed.specs.declared.answer.Status.TheVariants.{InternalServerError, NotImplemented, ServiceUnavailable}
@@ -91,8 +91,9 @@ abbrev pub last_of : State → List State → State
 last_of first [] = first
 last_of first (next ∷ later) = last_of next later
 
--- Nothing more was sent, appended or asked for.
+-- Nothing more was taken, sent, appended or asked for.
 pub record Rests (old last : State) : Type 0 where
+  pub left : last.left ≡ old.left
   pub sent : last.sent ≡ old.sent
   pub log : last.log ≡ old.log
   pub moments : last.moments ≡ old.moments
@@ -102,16 +103,16 @@ abbrev pub EndsAfter : Exit → State → State → Type 0
 -- at the end of the input, or with an answer that closes
 EndsAfter exit.Done old last =
     ((old.left ≡ []) × Rests old last)
-    ⊎ ((answer rest : List ℕ) × Answers old rest answer true last.log last.moments × (last.sent ≡ old.sent ++ answer))
+    ⊎ ((answer : List ℕ) × Answers old last.left answer true last.log last.moments × (last.sent ≡ old.sent ++ answer))
 -- before the next request was read
 EndsAfter exit.ReadFault old last = Rests old last
 -- with a front of the answer that was due
 EndsAfter exit.WriteFault old last =
-    (answer rest : List ℕ) × (closes : Bool) × (count : ℕ) × Answers old rest answer closes last.log last.moments
+    (answer : List ℕ) × (closes : Bool) × (count : ℕ) × Answers old last.left answer closes last.log last.moments
     × (last.sent ≡ old.sent ++ take count answer)
 -- with a front of the answer 500, and with the records of the request that met the fault in the log or not
 EndsAfter exit.DiskFault old last =
-    (target rest : List ℕ) × (says : Answering) × (count : ℕ) × Requests old.left target rest
+    (target : List ℕ) × (says : Answering) × (count : ℕ) × Requests old.left target last.left
     × IsReply old.log (first_moment old.moments) target says × (last.sent ≡ old.sent ++ take count disk_answer)
     × ((last.log ≡ old.log) ⊎ (last.log ≡ old.log ++ says.added)) × (last.moments ≡ moments_after says old.moments)
 EndsAfter (exit.BadWords place) old last = ⊥
@@ -122,12 +123,17 @@ EndsAfter exit.TurnsSpent old last = ⊥
 -- The log that the last request of a session led to, or was to lead to where it met a fault of the disk
 abbrev pub LeadsTo : Exit → State → State → List Record → Type 0
 LeadsTo exit.DiskFault old last log =
-    (target rest : List ℕ) × (says : Answering) × Requests old.left target rest × IsReply old.log (first_moment old.moments) target says
+    (target : List ℕ) × (says : Answering) × Requests old.left target last.left × IsReply old.log (first_moment old.moments) target says
     × (log ≡ old.log ++ says.added)
 LeadsTo end old last log = log ≡ last.log
 
--- The outside is told, and has this of a state: what was sent, the log, and the moments.
-pub record Stands (sent : Option (List ℕ)) (files : Option Files) (moments : Option (List ℕ)) (state : State) : Type 0 where
+-- A source is told, and has this left behind what was read ahead of its use.
+abbrev pub HasLeft : Option (List ℕ) → List ℕ → Type 0
+HasLeft told left = (ahead : List ℕ) × (left_of ahead told ≡ Some left)
+
+-- The outside is told, and has this of a state: what is left of the input, what was sent, the log, and the moments.
+pub record Stands (left sent : Option (List ℕ)) (files : Option Files) (moments : Option (List ℕ)) (state : State) : Type 0 where
+  pub left_is : HasLeft left state.left
   pub sent_is : sent ≡ Some state.sent
   pub log_is : IsSomeAnd files (λ told. IsRecordLog told state.log)
   pub moments_are : moments ≡ Some state.moments

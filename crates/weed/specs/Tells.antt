@@ -46,10 +46,10 @@ abbrev pub Leads : State → (List Record → Type 0) → (List Record → Type 
 Leads old Moves Tears left sent files moments session Open =
     (new : State) × Tells left sent files moments session new × Turn old new × Moves new.log
 Leads old Moves Tears left sent files moments session (Ended exit.DiskFault) =
-    (last : State) × Stands sent files moments last × EndsAfter exit.DiskFault old last
+    (last : State) × Stands left sent files moments last × EndsAfter exit.DiskFault old last
     × ((log : List Record) × LeadsTo exit.DiskFault old last log × Tears log)
 Leads old Moves Tears left sent files moments session (Ended end) =
-    (last : State) × Stands sent files moments last × EndsAfter end old last × Moves last.log
+    (last : State) × Stands left sent files moments last × EndsAfter end old last × Moves last.log
 
 -- How a run of turns ended: after as many requests as a session answers, or before that.
 abbrev pub Ends : Exit → State → List State → State → Type 0

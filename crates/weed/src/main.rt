@@ -24,12 +24,12 @@ use std::io::{self, Write};
 use std::process::ExitCode;
 use weed_base::{DirHost, StandardError, StandardInput, SystemClock, Word};
 
-/// What `weed -h` tells.
+/// What `weed --help` tells.
 const USAGE: &[u8] = b"\
 weed filer.once -dir=DIRECTORY
     answers the HTTP requests of standard input over the log in DIRECTORY, which is made where there is
     none, and ends
-weed -h | --help | help
+weed --help | help
 weed --version
 
 Statuses: 0 done, 1 bad word, 2 disk fault, 3 damaged, 5 read fault, 6 write fault, 7 out of memory,
@@ -39,12 +39,13 @@ Statuses: 0 done, 1 bad word, 2 disk fault, 3 damaged, 5 read fault, 6 write fau
 const VERSION: &[u8] = b"weed 0.1.0\n";
 
 fn main(rt: HostRuntime) -> ExitCode {
-    let Ok(words) = words_of(rt) else {
-        return end(rt, &Exit::BadWords { place: 0 });
+    let words = match words_of(rt) {
+        Ok(words) => words,
+        Err(error) => return end(rt, &exit_of(&error)),
     };
     match words.as_slice() {
-        [word] if is_one_of(word, &[b"-h", b"--help", b"help"]) => show(rt, USAGE),
-        [word] if is_one_of(word, &[b"--version", b"version"]) => show(rt, VERSION),
+        [word] if is_one_of(word, &[b"--help", b"help"]) => show(rt, USAGE),
+        [word] if is_one_of(word, &[b"--version"]) => show(rt, VERSION),
         words => {
             let world = World {
                 source: StandardInput::new(rt.stdin()),
@@ -64,6 +65,14 @@ fn words_of(rt: HostRuntime) -> io::Result<Vec<Word>> {
         words.push(Word::new(rt.alloc(), text.as_bytes())?)?;
     }
     Ok(words)
+}
+
+/// Words that are no text are bad from the first on.
+fn exit_of(error: &io::Error) -> Exit {
+    match error.kind() {
+        io::ErrorKind::OutOfMemory => Exit::Memory,
+        _ => Exit::BadWords { place: 0 },
+    }
 }
 
 fn is_one_of(word: &Word, texts: &[&[u8]]) -> bool {

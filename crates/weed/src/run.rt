@@ -12,7 +12,7 @@ ghost use Rattle.weed.specs.Words.{order_of};
 ghost use Rattle.weed.specs.Crash.{Survives};
 ghost use Rattle.weed.specs.Filer.{HoldsFiler};
 ghost use Rattle.weed.specs.Session.{State, Stands, Turns, most_turns};
-ghost use Rattle.weed.specs.Run.{Starts, Begins, EndsRun, IsEarly, IfDamagedExit, IsDoneOrShort, exit_of_fault};
+ghost use Rattle.weed.specs.Run.{Starts, Begins, EndsRun, EndsUnread, IsEarly, IfDamagedExit, IsDoneOrShort, exit_of_fault};
 
 use crate::exit::Exit;
 use crate::inbox::Inbox;
@@ -68,7 +68,7 @@ pub fn weed<S: Source, H: Host, C: Clock>(
 ) -> (Exit, World<S, H, C>)
     ensures answers { (dir : List ℕ) (first : State) → order_of words.now ≡ Ok dir
         → Starts (S.left world.source) (bytes_sent (H.sent world.host)) (H.files world.host) (C.moments world.clock) first
-        → (path : List State) × (last : State) × Stands (bytes_sent (H.sent result.1.host)) (H.files result.1.host) (C.moments result.1.clock) last
+        → (path : List State) × (last : State) × Stands (S.left result.1.source) (bytes_sent (H.sent result.1.host)) (H.files result.1.host) (C.moments result.1.clock) last
         × EndsRun result.0 first path last (λ of_run. IsOwn (H.images world.host)
         → Survives H.tick H.images H.image_since H.sent world.host result.1.host result.0 first path last of_run) }
 
@@ -79,6 +79,10 @@ pub fn weed<S: Source, H: Host, C: Clock>(
         → ¬ Rose (H.faults world.host) (H.faults result.1.host) → ¬ Rose (S.faults world.source) (S.faults result.1.source)
         → ¬ Rose (H.send_faults world.host) (H.send_faults result.1.host) → ((path : List State) → Turns first path → length path ≢ most_turns)
         → IsDoneOrShort result.0 }
+
+    // Over files that are no log the run ends before it reads or sends anything.
+    ensures unreadable { (dir : List ℕ) (files : Files) → order_of words.now ≡ Ok dir → H.files world.host ≡ Some files
+        → ((records : List Record) → ¬ IsRecordLog files records) → EndsUnread result.0 (H.sent world.host) (H.sent result.1.host) (S.left world.source) (S.left result.1.source) }
     ensures words { (place : ℕ) → (result.0 ≡ Exit.BadWords place) ↔ (order_of words.now ≡ Err place) }
     ensures untouched { (place : ℕ) → order_of words.now ≡ Err place → result.1 ≡ world }
     ensures damaged { IfDamagedExit (λ file at. IfSome (H.files world.host) (λ files. IsRecordDamage files file at) × (H.files result.1.host ≡ H.files world.host)) result.0 }
@@ -104,9 +108,11 @@ fn filer_once<S: Source, H: Host, C: Clock>(
     world: &mut World<S, H, C>,
 ) -> Exit
     ensures answers { (first : State) → Starts (S.left world.old.source) (bytes_sent (H.sent world.old.host)) (H.files world.old.host) (C.moments world.old.clock) first
-        → (path : List State) × (last : State) × Stands (bytes_sent (H.sent world.new.host)) (H.files world.new.host) (C.moments world.new.clock) last
+        → (path : List State) × (last : State) × Stands (S.left world.new.source) (bytes_sent (H.sent world.new.host)) (H.files world.new.host) (C.moments world.new.clock) last
         × EndsRun result first path last (λ of_run. IsOwn (H.images world.old.host)
         → Survives H.tick H.images H.image_since H.sent world.old.host world.new.host result first path last of_run) }
+    ensures unreadable { (files : Files) → H.files world.old.host ≡ Some files → ((records : List Record) → ¬ IsRecordLog files records)
+        → EndsUnread result (H.sent world.old.host) (H.sent world.new.host) (S.left world.old.source) (S.left world.new.source) }
     ensures good_words { (place : ℕ) → result ≡ Exit.BadWords place → ⊥ }
     ensures damaged { IfDamagedExit (λ file at. IfSome (H.files world.old.host) (λ files. IsRecordDamage files file at) × (H.files world.new.host ≡ H.files world.old.host)) result }
     ensures own { (files : Files) → H.files world.old.host ≡ Some files → IsOwn (H.images world.old.host) → IfDamagedExit (λ _ _. ⊥) result }

@@ -1,6 +1,7 @@
 use super::*;
+use std::process::Abort;
 use std::test::Fail;
-use weed_base::{Bytes, FileName, MemClock, MemDisk, MemHost, MemSource, NamedBytes};
+use weed_base::{Bytes, Disk, FileName, MemClock, MemDisk, MemHost, MemSource, Pick};
 
 const MAKE: &[u8] = b"POST /a/b/ HTTP/1.1\r\nHost: x\r\n\r\n";
 
@@ -17,6 +18,8 @@ const ONE_RECORD: [u8; 59] = [
     0x30, 0x05, 0x12, 0x16, 0x0a, 0x02, b'/', b'a', 0x12, 0x10, 0x12, 0x0e, 0x0a, 0x01, b'b', 0x10,
     0x01, 0x22, 0x07, 0x10, 0x05, 0x18, 0xed, 0x03, 0x30, 0x05, 0x00,
 ];
+
+const PICKS: [Pick; 4] = [Pick::Old, Pick::New, Pick::Fill(0), Pick::Fill(1)];
 
 /// What a run over memory left.
 #[derive(Drop)]
@@ -46,17 +49,10 @@ fn empty_disk(alloc: Global) -> Result<MemDisk, Fail> {
     Ok(MemDisk::new(alloc, Vec::new(alloc), Vec::new(alloc))?)
 }
 
-/// The files of a run's disk, on a disk that doesn't fail.
-fn disk_after(alloc: Global, ran: &Ran) -> Result<MemDisk, Fail> {
-    let mut files = Vec::new(alloc);
-    for text in [b"log.00000001".as_slice(), b"log.00000001.on"] {
-        let name = FileName::new(text).ok_or("a name")?;
-        if let Some(bytes) = ran.host.disk().content(&name) {
-            let bytes = Bytes::new(alloc, bytes)?;
-            files.push(NamedBytes { name, bytes })?;
-        }
-    }
-    Ok(MemDisk::new(alloc, files, Vec::new(alloc))?)
+/// What a crash at the end of a run leaves.
+fn image_after(ran: &Ran, pick: Pick) -> Result<MemDisk, Fail> {
+    let disk = ran.host.disk();
+    Ok(disk.image(disk.tick(), pick)?)
 }
 
 /// Runs `filer.once` over a clock of three moments.
@@ -88,13 +84,15 @@ fn run_once(alloc: Global, input: &[u8]) -> Result<Ran, Fail> {
 }
 
 #[test]
-fn a_directory_is_made_and_answered_once_in_two_runs(rt: HostRuntime) -> Result<(), Fail> {
+fn the_first_run_is_not_out_of_memory_and_a_second_adds_nothing(
+    rt: HostRuntime,
+) -> Result<(), Fail> {
     let alloc = rt.alloc();
     let first = run_once(alloc, MAKE)?;
     assert_eq!(rt; first.sent(), MADE.as_bytes());
     assert_eq!(rt; first.status, 0);
     assert_eq!(rt; first.log()?, ONE_RECORD.as_slice());
-    let disk = disk_after(alloc, &first)?;
+    let disk = image_after(&first, Pick::New)?;
     let second = run_over(alloc, source_of(alloc, MAKE)?, disk, [6_000_000_000; 3])?;
     assert_eq!(rt; second.sent(), MADE.as_bytes());
     assert_eq!(rt; second.log()?, ONE_RECORD.as_slice());
@@ -238,6 +236,17 @@ fn run_with_a_fault(alloc: Global, call: u64) -> Result<Ran, Fail> {
     run_over(alloc, source_of(alloc, MAKE)?, disk, [5_000_000_000; 3])
 }
 
+/// Whatever a crash leaves of a run, the first request is answered over it.
+fn answers_again(rt: &impl Abort, alloc: Global, ran: &Ran) -> Result<(), Fail> {
+    for pick in PICKS {
+        let disk = image_after(ran, pick)?;
+        let again = run_over(alloc, source_of(alloc, MAKE)?, disk, [5_000_000_000; 3])?;
+        assert_eq!(rt; again.status, 0, "{pick:?}");
+        assert_eq!(rt; again.sent(), MADE.as_bytes(), "{pick:?}");
+    }
+    Ok(())
+}
+
 #[test]
 fn each_call_of_the_disk_may_fail(rt: HostRuntime) -> Result<(), Fail> {
     let alloc = rt.alloc();
@@ -253,14 +262,7 @@ fn each_call_of_the_disk_may_fail(rt: HostRuntime) -> Result<(), Fail> {
             assert!(rt; is_told || ran.sent().is_empty(), "call {call}");
             told = u32::saturating_add(told, u32::from(is_told));
         }
-        let again = run_over(
-            alloc,
-            source_of(alloc, MAKE)?,
-            disk_after(alloc, &ran)?,
-            [5_000_000_000; 3],
-        )?;
-        assert_eq!(rt; again.status, 0, "after call {call}");
-        assert_eq!(rt; again.sent(), MADE.as_bytes(), "after call {call}");
+        answers_again(&rt, alloc, &ran)?;
     }
     assert!(rt; told >= 4, "{told} faults of an append");
     Ok(())

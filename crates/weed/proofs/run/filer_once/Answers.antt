@@ -2,7 +2,8 @@ use Rattle.std.proofs.Common.{inl, inr, [], refl, ap}
 use Rattle.weed_base.specs.Sent.{bytes_sent}
 use Rattle.meta_log.specs.Making.{LeavesOthers}
 use Rattle.meta_log.specs.declared.stem.Stem.TheVariants.{Log}
-use Rattle.weed.proofs.RunLemmas.{begun_tells, early_stands, session_is_sound, session_has_words}
+use Rattle.weed.proofs.RunLemmas.{found_log, begun_tells, early_stands, session_is_sound, session_has_words}
+use Rattle.weed.proofs.SessionLemmas.{same_rests}
 use Rattle.weed.proofs.SurvivalLemmas.{log_told, own_is_sound, survives_early, survives_session}
 use Rattle.weed.proofs.run.filer_once.Goals as goal
 
@@ -47,12 +48,19 @@ returns-in-Err-clause-answers g c first starts =
       inr (
         c.in-Err.ensures.early,
         refl,
-        record { sent = refl; log = refl; moments = refl },
+        same_rests first,
         λ own.
             survives_early disk.tick disk.images disk.image_since disk.sent g.met.H.Disk.only_now g.met.H.Disk.counts_now old new own (c.in-Err.ensures.atomic log.0 log.1) c.in-Err.exit first first
             stands.sent_is,
       ),
     )
+
+pub returns-in-Ok-clause-unreadable : goal.returns-in-Ok-clause-unreadable
+returns-in-Ok-clause-unreadable g c files told none =
+    let found = found_log (g.H.Disk.files c.args.world.now.host) (g.H.Disk.files c.begin.new.host) c.in-Ok.session files told c.in-Ok.ensures.began in absurd (none found.0 found.1)
+
+pub returns-in-Err-clause-unreadable : goal.returns-in-Err-clause-unreadable
+returns-in-Err-clause-unreadable g c files told none = record { early = c.in-Err.ensures.early; unsent = c.in-Err.ensures.sent.0; unread = refl }
 
 pub returns-in-Ok-clause-own : goal.returns-in-Ok-clause-own
 returns-in-Ok-clause-own g c files told own = session_is_sound _ c.run.result c.run.ensures.kind

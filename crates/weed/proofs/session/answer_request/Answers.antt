@@ -70,7 +70,7 @@ returns-in-Err-DiskFault-clause-leads g c old rest asking =
     (λ before after. tears_sent disk.tick disk.images disk.image_since host c.reply_to_target.new.disk c.send_all.new.host before after c.send_all.ensures.still)
     asking.filer asking.moments_are asking.sent_is (ap bytes_sent c.reply_to_target.ensures.sent.0) c.send_all.ensures.files
     (c.as_slice-in-Err-DiskFault.ensures ∙ c.args.session.now.standing.disk_fault_is)
-    c.send_all.ensures.bytes
+    c.send_all.ensures.bytes asking.left_is
 
 pub returns-in-Ok-clause-pieces : goal.returns-in-Ok-clause-pieces
 returns-in-Ok-clause-pieces g c =

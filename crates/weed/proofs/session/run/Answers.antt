@@ -57,7 +57,8 @@ returns-clause-ends g c first tells =
     let all : length before.0 ≡ most_turns = omega (arith, before.3) in (
       before.0,
       last_of first before.0,
-      rests (last_of first before.0) (g.S.Source.left c.loop-turn.world.source) (bytes_sent (disk.sent now)) (disk.files now) (g.C.Clock.moments c.loop-turn.world.clock) c.loop-turn.session before.1,
+      rests (last_of first before.0) (g.S.Source.left c.loop-turn.world.source) (g.S.Source.left c.loop-turn.world.source) (bytes_sent (disk.sent now)) (disk.files now) (g.C.Clock.moments c.loop-turn.world.clock) c.loop-turn.session before.1
+          (c.loop-turn.session.inbox.pending, before.1.left_is),
       (before.2, all, refl),
       λ keep. spent_ends disk.tick disk.images disk.image_since disk.sent g.met.H.Disk.only_now c.args.world.now.host now first before.0 (before.4 keep) before.1.sent_is,
     )

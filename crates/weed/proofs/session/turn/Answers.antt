@@ -1,6 +1,5 @@
 use Rattle.std.proofs.Common.{refl, ◌∙◌}
 use Rattle.weed_base.specs.Sent.{bytes_sent}
-use Rattle.weed.specs.Inbox.{left_of}
 use Rattle.weed.specs.Settling.{Settling, Tearing}
 use Rattle.weed.proofs.HandedLemmas.{sends_nothing}
 use Rattle.weed.proofs.SettlingLemmas.{settles_nothing, settles_sent}
@@ -29,7 +28,7 @@ returns-in-Ok-End-clause-leads g c old tells =
     let host = c.args.world.now.host in
     let left = g.S.Source.left c.next_head.new.from in
     ended_leads (Settling disk.tick disk.images disk.image_since host host old.log) (Tearing disk.tick disk.images disk.image_since host host old.log) old (g.S.Source.left c.args.world.now.source) left
-    (left_of c.next_head.new.inbox.pending left) (bytes_sent (disk.sent host)) (disk.files host) (g.C.Clock.moments c.args.world.now.clock)
+    (bytes_sent (disk.sent host)) (disk.files host) (g.C.Clock.moments c.args.world.now.clock)
     c.args.session.now (record { filer = c.args.session.now.filer; inbox = c.next_head.new.inbox; standing = c.args.session.now.standing }) c.in-Ok-End.field-0
     tells c.in-Ok-End.field-0-is c.in-Ok-End.ensures.head (settles_nothing disk.tick disk.images disk.image_since host old.log)
 
@@ -43,7 +42,7 @@ returns-in-Err-clause-leads g c old tells =
     unread_leads (Settling disk.tick disk.images disk.image_since host host old.log) (Tearing disk.tick disk.images disk.image_since host host old.log) old (g.S.Source.left c.args.world.now.source) (g.S.Source.left c.next_head.new.from)
     (bytes_sent (disk.sent host)) (disk.files host) (g.C.Clock.moments c.args.world.now.clock)
     c.args.session.now (record { filer = c.args.session.now.filer; inbox = c.next_head.new.inbox; standing = c.args.session.now.standing })
-    tells (settles_nothing disk.tick disk.images disk.image_since host old.log)
+    tells c.in-Err.ensures.head (settles_nothing disk.tick disk.images disk.image_since host old.log)
 
 pub returns-in-Err-clause-pieces : goal.returns-in-Err-clause-pieces
 returns-in-Err-clause-pieces g c = sends_nothing (g.H.Disk.tick c.args.world.now.host) (g.H.Disk.sent c.args.world.now.host)

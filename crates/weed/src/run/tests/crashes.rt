@@ -1,7 +1,4 @@
 use super::*;
-use weed_base::{Disk, Pick};
-
-const PICKS: [Pick; 4] = [Pick::Old, Pick::New, Pick::Fill(0), Pick::Fill(1)];
 
 /// The bytes that the log has once so many of the three requests are answered, but for its last gate.
 fn front_of_log(alloc: Global, answered: usize) -> Result<Bytes, Fail> {
