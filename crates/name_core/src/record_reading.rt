@@ -13,10 +13,10 @@ use proto_wire::{Field, Reader, Value, read_message};
 use std::alloc::Global;
 
 impl Record {
-    /// The record that the text spells. `Wire` is the first fault of a field; `BadRecord` comes where there
-    /// is none, for no change, a time of 0 or past 2^63 - 1, an event without entries, a bad path or a bad
-    /// entry. Until files are read, every event that isn't a Put of a directory is bad, and every entry with
-    /// a chunk.
+    /// The record that the text spells. `Wire` is the first fault of the text's own fields, else of the messages
+    /// that it takes, in their order; `BadRecord` comes where there is none, for no change, a time of 0 or past
+    /// 2^63 - 1, an event without entries, a bad path or a bad entry. Until files are read, every event that
+    /// isn't a Put of a directory is bad, and every entry with a chunk.
     pub fn read(alloc: Global, text: &[u8]) -> Result<Record, RecordFault>
         ensures exact { Reads (record_of text.now) result }
         ensures valid { IfOk result CanBeWritten }
