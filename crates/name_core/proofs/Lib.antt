@@ -10,3 +10,4 @@ pub mod ReadingLoop
 pub mod ReadRecords
 pub mod RoundTrip
 pub mod PlanReadBack
+pub mod MadeLemmas

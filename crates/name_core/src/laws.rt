@@ -1,9 +1,10 @@
 ghost use Rattle.std.specs.Prelude.{◌≡◌, ◌≤◌, ◌<◌, ◌^◌, ℕ, List, [], ◌∷◌, ◌++◌, length, All, Ok};
 ghost use Rattle.name_core.specs.declared.change.Record.{Record};
 ghost use Rattle.name_core.specs.declared.command.Command.{Command};
-ghost use Rattle.name_core.specs.Namespace.{Namespace, IsWellFormed, KeepsWellFormed};
+ghost use Rattle.name_core.specs.declared.command.Command.TheVariants.{MakeDir};
+ghost use Rattle.name_core.specs.Namespace.{Namespace, IsDirectoryIn, IsWellFormed, KeepsWellFormed};
 ghost use Rattle.name_core.specs.Log.{end_of_time, last_time, fold, IsSound, after_record};
-ghost use Rattle.name_core.specs.Plan.{Recorded, plan_of};
+ghost use Rattle.name_core.specs.Plan.{Recorded, Nothing, prefixes, plan_of};
 ghost use Rattle.name_core.specs.Readable.{FitsTypes, PutsDirectory};
 ghost use Rattle.name_core.specs.RecordReading.{record_of};
 ghost use Rattle.name_core.specs.RecordText.{CanBeWritten, record_text};
@@ -26,6 +27,14 @@ pub fn plans_keep_logs_sound()
     ensures sound { (log : List Record) (command : Command) (clock : ℕ) (made : Record) → IsSound log
         → plan_of (fold log) command clock (last_time log) ≡ Recorded made → IsSound (log ++ made ∷ []) }
     ensures folds { (log : List Record) (made : Record) → fold (log ++ made ∷ []) ≡ after_record made (fold log) }
+{}
+
+/// A directory that a command makes, or that is there already, is there behind the command, and so is each one above it.
+pub fn made_directories_are_there()
+    ensures made { (names : Namespace) (path : List (List ℕ)) (clock last : ℕ) (made : Record)
+        → plan_of names (MakeDir path) clock last ≡ Recorded made → All (IsDirectoryIn (after_record made names)) (prefixes path) }
+    ensures there { (names : Namespace) (path : List (List ℕ)) (clock last : ℕ)
+        → plan_of names (MakeDir path) clock last ≡ Nothing → All (IsDirectoryIn names) (prefixes path) }
 {}
 
 /// What is written is read back. Until files are read, this is so of records of directories.
