@@ -16,7 +16,7 @@ use Rattle.name_core.specs.Log.{end_of_time, after_record}
 use Rattle.name_core.specs.Plan.{prefixes, is_file, first_file, missing, puts, unless_file, record_time, Recorded, Nothing, Refused, planned, plan_of}
 use Rattle.name_core.proofs.Paths.{get-insert_same}
 use Rattle.name_core.proofs.NamespaceLemmas.{IsDirectoryIn-found, IsDirectoryIn-insert}
-use Rattle.name_core.proofs.PlanLemmas.{recorded_makes}
+use Rattle.name_core.proofs.PlanLemmas.{Makes, planned_makes}
 
 -- Each directory of the one map is a directory of the other.
 abbrev pub KeepsDirectories : Namespace → Namespace → Type 0
@@ -64,10 +64,6 @@ puts_make first time [] names keeps clear = All-nil (IsDirectoryIn names)
 puts_make first time (path ∷ paths) names keeps clear =
     one_more (get first path) first names time path paths refl keeps clear (puts_make first time paths)
 
-planned_record : (last time : ℕ) (file : Option (List (List ℕ))) (changes : List Change) (made : Record) → planned last time (unless_file file changes) ≡ Recorded made → (file ≡ None) × (made.changes ≡ changes)
-planned_record last time None changes made e = (refl, (recorded_makes last time changes made e).changes)
-planned_record last time (Some file) changes made e = cc
-
 not_nothing : (full : Bool) (made : Record) → cond full (Refused ClockAtEnd) (Recorded made) ≡ Nothing → ⊥
 not_nothing true made e = cc
 not_nothing false made e = cc
@@ -80,9 +76,9 @@ planned_nothing last time (Some file) changes e = cc
 pub made_are_there : (names : Namespace) (path : List (List ℕ)) (clock last : ℕ) (made : Record) → plan_of names (MakeDir path) clock last ≡ Recorded made → All (IsDirectoryIn (after_record made names)) (prefixes path)
 made_are_there names path clock last made e =
     let time : ℕ = record_time clock last in
-    let is : (first_file names (prefixes path) ≡ None) × (made.changes ≡ puts time (missing names (prefixes path))) = planned_record last time _ _ made e in
-    subst (λ changes. All (IsDirectoryIn (after_changes changes names)) (prefixes path)) (sym is.1)
-    (puts_make names time (prefixes path) names (λ q h. h) is.0)
+    let makes : (first_file names (prefixes path) ≡ None) × Makes (puts time (missing names (prefixes path))) last time made = planned_makes last time _ _ made e in
+    subst (λ changes. All (IsDirectoryIn (after_changes changes names)) (prefixes path)) (sym makes.1.changes)
+    (puts_make names time (prefixes path) names (λ q h. h) makes.0)
 
 pub unmade_are_there : (names : Namespace) (path : List (List ℕ)) (clock last : ℕ) → plan_of names (MakeDir path) clock last ≡ Nothing → All (IsDirectoryIn names) (prefixes path)
 unmade_are_there names path clock last e =

@@ -1,21 +1,23 @@
 -- What a plan keeps of a namespace and of a log.
 use Rattle.std.proofs.Common.{◌≡◌, ◌≢◌, ◌⊎◌, ℕ, ◌<◌, ◌≤◌, Bool, true, false, cond, List, [], ◌∷◌, ◌++◌, length, Some, None, Option, refl, sym, ap, append_assoc, append-nil, ◌∙◌, subst, inl, inr, arith, eqb}
-use Rattle.std.specs.Prelude.{is_none}
+use Rattle.std.specs.Prelude.{All, is_none}
 use Rattle.std.specs.FinMap.{get, insert, empty}
 use Rattle.std.proofs.lemmas.Bool.{eqb-false, false≢true}
+use Rattle.std.proofs.lemmas.List.Elements.{All-nil, All-cons, All-append, All-filter, All-map}
 use Rattle.name_core.specs.declared.entry.Entry.{Entry}
 use Rattle.name_core.specs.declared.entry.Kind.{Kind}
 use Rattle.name_core.specs.declared.entry.Kind.TheVariants.{Directory, File}
 use Rattle.name_core.specs.declared.change.Change.{Change}
+use Rattle.name_core.specs.declared.change.Change.TheVariants.{Put}
 use Rattle.name_core.specs.declared.change.Record.{Record}
 use Rattle.name_core.specs.declared.command.Command.{Command}
 use Rattle.name_core.specs.declared.command.Command.TheVariants.{MakeDir}
 use Rattle.name_core.specs.declared.command.Refusal.TheVariants.{ClockAtEnd}
 use Rattle.name_core.specs.Entry.{is_file_kind, new_directory}
-use Rattle.name_core.specs.Namespace.{Namespace, after_changes, IsDirectoryIn, IsWellFormed, KeepsWellFormed}
+use Rattle.name_core.specs.Namespace.{Namespace, path_of, AreRootless, after_changes, IsDirectoryIn, IsWellFormed, KeepsWellFormed}
 use Rattle.name_core.specs.Log.{end_of_time, changes_of, after_record, fold, last_time_from, last_time, TimesRise, IsSound}
 use Rattle.name_core.specs.Plan.{prefixes_from, prefixes, is_file, first_file, missing, puts, unless_file, record_time, Recorded, Refused, recorded, planned, plan_of}
-use Rattle.name_core.proofs.Paths.{get-insert_other, get-insert_same, longer_is_other, longer_than_top}
+use Rattle.name_core.proofs.Paths.{filled-append, get-insert_other, get-insert_same, longer_is_other, longer_than_top}
 use Rattle.name_core.proofs.NamespaceLemmas.{IsDirectoryIn-found, IsWellFormed-insert, IsWellFormed-empty, KeepsWellFormed-append, IsWellFormed-after, after_changes-append}
 
 not_file_is_directory : (kind : Kind) → is_file_kind kind ≡ false → kind ≡ Directory
@@ -66,6 +68,18 @@ puts_keep first names time top (part ∷ parts) formed above alike clear =
           parted.1)
     ]
 
+-- No prefix is the root, so neither is a path that is put.
+prefixes_rootless : (top parts : List (List ℕ)) → All (λ path. path ≢ []) (prefixes_from top parts)
+prefixes_rootless top [] = All-nil (λ path. path ≢ [])
+prefixes_rootless top (part ∷ parts) =
+    let path : List (List ℕ) = top ++ part ∷ [] in
+    All-cons (λ p. p ≢ []) path (prefixes_from path parts) (filled-append top part) (prefixes_rootless path parts)
+
+puts_rootless : (names : Namespace) (time : ℕ) (path : List (List ℕ)) → AreRootless (puts time (missing names (prefixes path)))
+puts_rootless names time path =
+    All-map (λ change. path_of change ≢ []) (λ p. Put p (new_directory time)) (missing names (prefixes path))
+    (All-filter (λ p. is_none (get names p)) (λ p. p ≢ []) (prefixes path) (prefixes_rootless [] path))
+
 -- What a plan that makes a record says
 pub record Makes (wanted : List Change) (last moment : ℕ) (made : Record) : Type 0 where
   pub time : made.time ≡ moment
@@ -83,7 +97,7 @@ pub recorded_makes : (last time : ℕ) (changes : List Change) (made : Record) �
 recorded_makes last time [] made e = cc
 recorded_makes last time (change ∷ more) made e = recorded_is (eqb last end_of_time) last time (change ∷ more) made refl e
 
-planned_makes : (last time : ℕ) (file : Option (List (List ℕ))) (changes : List Change) (made : Record) → planned last time (unless_file file changes) ≡ Recorded made → (file ≡ None) × Makes changes last time made
+pub planned_makes : (last time : ℕ) (file : Option (List (List ℕ))) (changes : List Change) (made : Record) → planned last time (unless_file file changes) ≡ Recorded made → (file ≡ None) × Makes changes last time made
 planned_makes last time None changes made e = (refl, recorded_makes last time changes made e)
 planned_makes last time (Some file) changes made e = cc
 
@@ -93,6 +107,12 @@ plan_keeps_names names (MakeDir path) clock last made formed e =
     let makes : (first_file names (prefixes path) ≡ None) × Makes (puts time (missing names (prefixes path))) last time made = planned_makes last time _ _ made e in
     subst (λ changes. KeepsWellFormed changes names) (sym makes.1.changes)
     (puts_keep names names time [] path formed tt (λ q h. refl) makes.0)
+
+plan_is_rootless : (names : Namespace) (command : Command) (clock last : ℕ) (made : Record) → plan_of names command clock last ≡ Recorded made → AreRootless made.changes
+plan_is_rootless names (MakeDir path) clock last made e =
+    let time : ℕ = record_time clock last in
+    let makes : (first_file names (prefixes path) ≡ None) × Makes (puts time (missing names (prefixes path))) last time made = planned_makes last time _ _ made e in
+    subst AreRootless (sym makes.1.changes) (puts_rootless names time path)
 
 pub plan_times : (names : Namespace) (command : Command) (clock last : ℕ) (made : Record) → plan_of names command clock last ≡ Recorded made → (made.time ≡ record_time clock last) × (last ≢ end_of_time)
 plan_times names (MakeDir path) clock last made e =
@@ -133,8 +153,11 @@ IsSound-push log command clock made sound e =
     let low : last_time log ≤ end_of_time = last_time_is_low 0 log (omega arith) sound.times in
     let times : (last_time log < made.time) × (made.time ≤ end_of_time) = plan_times_rise (fold log) command clock (last_time log) made low e in
     let keeps : KeepsWellFormed made.changes (fold log) = plan_keeps_names (fold log) command clock (last_time log) made (IsWellFormed-fold log sound) e in
+    let rootless : AreRootless made.changes = plan_is_rootless (fold log) command clock (last_time log) made e in
     record {
       times = TimesRise-push 0 log made sound.times times.0 times.1;
+      rootless = subst AreRootless (sym (changes_of-push log made))
+          (All-append (λ change. path_of change ≢ []) (changes_of log) made.changes sound.rootless rootless);
       well_formed = subst (λ changes. KeepsWellFormed changes empty) (sym (changes_of-push log made))
           (KeepsWellFormed-append (changes_of log) made.changes empty sound.well_formed keeps);
     }

@@ -7,11 +7,12 @@ use Rattle.name_core.specs.declared.change.Change.TheVariants.{Put, Drop}
 use Rattle.name_core.specs.declared.change.Record.{Record}
 use Rattle.name_core.specs.declared.command.PlanFault.{PlanFault}
 use Rattle.name_core.specs.Entry.{IsValid, new_directory}
+use Rattle.name_core.specs.Namespace.{path_of}
 use Rattle.name_core.specs.Log.{end_of_time}
 use Rattle.name_core.specs.Plan.{record_time, recorded, Recorded, Plans, IsNewDirectory, MakesDirectories}
 use Rattle.name_core.specs.Readable.{FitTypes, FitsTypes, PutsDirectory}
 use Rattle.name_core.specs.RecordReading.{record_of}
-use Rattle.name_core.specs.RecordText.{path_of, HasValidEntry, CanBeWritten, record_text}
+use Rattle.name_core.specs.RecordText.{HasValidEntry, CanBeWritten, record_text}
 use Rattle.name_core.proofs.PlanLemmas.{Makes, recorded_makes, record_time_rises}
 use Rattle.name_core.proofs.RecordSizes.{length-record}
 use Rattle.name_core.proofs.RoundTrip.{written_is_read}

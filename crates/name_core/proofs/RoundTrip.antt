@@ -21,10 +21,11 @@ use Rattle.name_core.specs.declared.parts.EntriesParts.{EntriesParts}
 use Rattle.name_core.specs.declared.parts.EventParts.{EventParts}
 use Rattle.name_core.specs.declared.record_fault.RecordFault.TheVariants as faults
 use Rattle.name_core.specs.Entry.{IsValid}
+use Rattle.name_core.specs.Namespace.{path_of, AreRootless}
 use Rattle.name_core.specs.Log.{end_of_time}
 use Rattle.name_core.specs.Messages.{AttributesText, attributes_in, EntryFieldsText, entry_fields_in, NotificationText, notification_in, EventFieldsText, event_fields_in}
 use Rattle.name_core.specs.Steps.{attributes_with_number, attributes_with_text, entry_with_number, entry_with_text, event_with_text}
-use Rattle.name_core.specs.RecordText.{attributes_text, directory_bit, directory_of, name_of, path_of, change_text, record_text, CanBeWritten, HasValidEntry}
+use Rattle.name_core.specs.RecordText.{attributes_text, directory_bit, directory_of, name_of, change_text, record_text, CanBeWritten, HasValidEntry}
 use Rattle.name_core.specs.RecordReading.{are_good, attributes_of, entry_of, path_in, directory_put, if_stays, entry_at, entries_at, event_at, change_of, change_at, each_change_at, all_of, or_wire, changes_in, record_with, record_from, record_of}
 use Rattle.name_core.specs.Readable.{FitTypes, FitsTypes, PutsDirectory}
 use Rattle.weed_base.specs.Path.{text_of}
@@ -326,7 +327,7 @@ Spells-events (change ∷ changes) short =
     (Spells-events changes (omega arith))
 
 -- Each event means its change.
-each_again : (changes : List Change) → All PutsDirectory changes → All FitsTypes changes → All (λ change. path_of change ≢ []) changes → All HasValidEntry changes → length (events_text changes) < 2 ^ 64
+each_again : (changes : List Change) → All PutsDirectory changes → All FitsTypes changes → AreRootless changes → All HasValidEntry changes → length (events_text changes) < 2 ^ 64
     → each_change_at (map change_text changes) ≡ Ok (map Some changes)
 each_again [] puts fits filled valid short = refl
 each_again (change ∷ changes) puts fits filled valid short =

@@ -3,7 +3,7 @@ use Rattle.std.specs.Prelude.{ℕ, ◌≤◌, ◌<◌, List, [], ◌∷◌, flat
 use Rattle.std.specs.FinMap.{empty}
 use Rattle.name_core.specs.declared.change.Change.{Change}
 use Rattle.name_core.specs.declared.change.Record.{Record}
-use Rattle.name_core.specs.Namespace.{Namespace, after_changes, KeepsWellFormed}
+use Rattle.name_core.specs.Namespace.{Namespace, AreRootless, after_changes, KeepsWellFormed}
 
 -- The last time that a record may have, 2^63 - 1.
 abbrev pub end_of_time : ℕ
@@ -35,9 +35,11 @@ abbrev pub TimesRise : ℕ → List Record → Type 0
 TimesRise before [] = Unit {0}
 TimesRise before (r ∷ log) = (before < r.time) × (r.time ≤ end_of_time) × TimesRise r.time log
 
--- A log is sound where times rise strictly, lie in 1 to 2^63 - 1, and each change in order leaves a well-formed map.
+-- A log is sound where times rise strictly, lie in 1 to 2^63 - 1, no change names the root, and each change in order
+-- leaves a well-formed map.
 pub record IsSound (log : List Record) : Type 0 where
   pub times : TimesRise 0 log
+  pub rootless : AreRootless (changes_of log)
   pub well_formed : KeepsWellFormed (changes_of log) empty
 
 -- The records with a time of at most an offset, which stand in front

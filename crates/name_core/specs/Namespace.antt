@@ -1,5 +1,5 @@
 -- Namespaces: finite maps from paths to entries, in the order of the paths' parts, and what changes make of them.
-use Rattle.std.specs.Prelude.{◌≡◌, ℕ, List, [], ◌∷◌, ◌++◌, None, IsSome, IsSomeAnd, Bool, not}
+use Rattle.std.specs.Prelude.{◌≡◌, ◌≢◌, ℕ, List, [], ◌∷◌, ◌++◌, All, None, IsSome, IsSomeAnd, Bool, not}
 use Rattle.std.specs.List.{starts_with}
 use Rattle.std.specs.Str.{bytes_eq}
 use Rattle.std.specs.Ordering.{nat_cmp}
@@ -12,6 +12,15 @@ use Rattle.name_core.specs.declared.change.Change.TheVariants.{Put, Drop}
 
 abbrev pub Namespace : Type 0
 Namespace = FinMap (slice_cmp (slice_cmp nat_cmp)) Entry
+
+-- The path that a change names
+abbrev pub path_of : Change → List (List ℕ)
+path_of (Put path entry) = path
+path_of (Drop path) = path
+
+-- No change names the root.
+abbrev pub AreRootless : List Change → Type 0
+AreRootless changes = All (λ change. path_of change ≢ []) changes
 
 -- Whether a path is another one or below it.
 abbrev pub is_within : List (List ℕ) → List (List ℕ) → Bool

@@ -5,7 +5,7 @@ use Rattle.name_core.specs.declared.entry.Attributes.{Attributes}
 use Rattle.name_core.specs.declared.entry.Kind.TheVariants.{Directory}
 use Rattle.name_core.specs.declared.change.Change.{Change}
 use Rattle.name_core.specs.declared.change.Change.TheVariants.{Put, Drop}
-use Rattle.name_core.specs.RecordText.{path_of}
+use Rattle.name_core.specs.Namespace.{path_of}
 
 -- The numbers fit their types, and a digest has its 16 bytes.
 pub record FitTypes (a : Attributes) : Type 0 where

@@ -19,8 +19,8 @@ use Rattle.name_core.specs.declared.parts.EventParts.{EventParts}
 use Rattle.name_core.specs.declared.record_fault.RecordFault.{RecordFault}
 use Rattle.name_core.specs.declared.record_fault.RecordFault.TheVariants as faults
 use Rattle.name_core.specs.Messages.{AttributesText, attributes_in, entry_fields_in, notification_in, event_fields_in}
+use Rattle.name_core.specs.Namespace.{path_of}
 use Rattle.name_core.specs.Log.{end_of_time}
-use Rattle.name_core.specs.RecordText.{path_of}
 
 -- ---- The messages that are taken, one in the other
 

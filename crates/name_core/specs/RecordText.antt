@@ -11,6 +11,7 @@ use Rattle.name_core.specs.declared.change.Change.{Change}
 use Rattle.name_core.specs.declared.change.Change.TheVariants.{Put, Drop}
 use Rattle.name_core.specs.declared.change.Record.{Record}
 use Rattle.name_core.specs.Entry.{IsValid}
+use Rattle.name_core.specs.Namespace.{path_of, AreRootless}
 use Rattle.name_core.specs.Log.{end_of_time}
 
 -- FuseAttributes
@@ -43,10 +44,6 @@ abbrev pub notification_text : Change → List ℕ
 notification_text (Put path entry) = message_field 2 (entry_text (name_of path) entry)
 notification_text (Drop path) = message_field 1 (bytes_field 1 (name_of path))
 
-abbrev pub path_of : Change → List (List ℕ)
-path_of (Put path entry) = path
-path_of (Drop path) = path
-
 -- SubscribeMetadataResponse: the directory in which the change is, and what changed
 abbrev pub change_text : Change → List ℕ
 change_text change = bytes_field 1 (text_of (directory_of (path_of change))) ++ message_field 2 (notification_text change)
@@ -65,5 +62,5 @@ pub record CanBeWritten (r : Record) : Type 0 where
   pub filled : r.changes ≢ []
   pub after_start : 1 ≤ r.time
   pub before_end : r.time ≤ end_of_time
-  pub rootless : All (λ change. path_of change ≢ []) r.changes
+  pub rootless : AreRootless r.changes
   pub valid : All HasValidEntry r.changes

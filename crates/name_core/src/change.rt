@@ -16,7 +16,7 @@ pub enum Change {
 }
 
 impl Change {
-    ghost use Rattle.name_core.specs.RecordText.{path_of};
+    ghost use Rattle.name_core.specs.Namespace.{path_of};
 
     /// The path that it names. Takes no memory.
     pub fn path(&self) -> &Path

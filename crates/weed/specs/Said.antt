@@ -2,11 +2,10 @@
 use Rattle.std.specs.Prelude.{◌≡◌, ◌≢◌, ℕ, List, [], Some, None}
 use Rattle.std.specs.FinMap.{get}
 use Rattle.name_core.specs.declared.change.Change.{Change}
-use Rattle.name_core.specs.Namespace.{Namespace, step}
+use Rattle.name_core.specs.Namespace.{Namespace, path_of, step}
 use Rattle.name_core.specs.declared.change.Change.TheVariants.{Put}
 use Rattle.name_core.specs.declared.entry.Entry.{Entry}
 use Rattle.name_core.specs.Entry.{IsValid}
-use Rattle.name_core.specs.RecordText.{path_of}
 use Rattle.weed.specs.declared.name_list.Said.{Said}
 use Rattle.weed.specs.declared.name_list.Said.TheVariants as said
 
