@@ -79,12 +79,12 @@ fn read_full(file: &File, at: u64, room: &mut [u8]) -> io::Result<usize>
     Ok(count)
 }
 
-/// Makes the directory where it isn't there, and settles its name.
+/// Makes the directory where it isn't there, and settles its name: an earlier process may have been stopped
+/// before it did.
 fn make_folder(rt: &impl Files<File = File>, place: &str) -> io::Result<()> {
     match fs::create_dir(rt, place) {
-        Ok(()) => sync_parent(rt, place),
-        Err(error) if error.kind() == io::ErrorKind::AlreadyExists => Ok(()),
-        Err(error) => Err(error),
+        Err(error) if error.kind() != io::ErrorKind::AlreadyExists => Err(error),
+        _ => sync_parent(rt, place),
     }
 }
 
