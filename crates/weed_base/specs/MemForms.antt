@@ -3,7 +3,7 @@ use Rattle.std.specs.Prelude.{◌≡◌, ◌<◌, ◌⊎◌, ◌-◌, ◌^◌, �
 use Rattle.std.specs.Coded.{Coded, code_by, coded×, coded_list, coded_ℕ}
 use Rattle.std.specs.FinMap.{code}
 use Rattle.weed_base.specs.Told.{raised}
-use Rattle.weed_base.specs.Calls.{CallState, fails_next, uncalled}
+use Rattle.weed_base.specs.Calls.{CallState, fails_next, uncalled, IsNextCall}
 use Rattle.weed_base.specs.Files.{Files}
 use Rattle.weed_base.specs.History.{reads, Image, ImageSince}
 use Rattle.weed_base.specs.Sent.{Piece}
@@ -66,9 +66,7 @@ images_since disk = ImageSince disk.start disk.past disk.calls.made
 
 -- A call of a memory disk has its number, and fails where that is listed.
 pub record IsDiskCall {T E : Type 0} (old new : DiskState) (result : Result T E) : Type 0 where
-  pub counted : new.calls.made ≡ raised old.calls.made
-  pub listed : new.calls.failing ≡ old.calls.failing
-  pub limit : new.calls.from ≡ old.calls.from
+  pub next : IsNextCall old.calls new.calls
   pub start : new.start ≡ old.start
   pub fails : IsTrue (fails_next old.calls) → IsErr result
 

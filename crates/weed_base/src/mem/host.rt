@@ -1,6 +1,6 @@
 ghost use Rattle.std.specs.Prelude.{◌≡◌, [], Some, false, refl, length, min, IfOk, IsErr, IsTrue};
 ghost use Rattle.weed_base.specs.Told.{HasWriteCause};
-ghost use Rattle.weed_base.specs.Calls.{uncalled, fails_next};
+ghost use Rattle.weed_base.specs.Calls.{uncalled, fails_next, IsNextCall};
 ghost use Rattle.weed_base.specs.Images.{StandsStill};
 ghost use Rattle.weed_base.specs.MemForms.{present, images, images_since};
 ghost use Rattle.weed_base.specs.Sent.{bytes_of, Sends};
@@ -180,6 +180,7 @@ impl Host for MemHost {
         ensures pieces { Sends self.old.disk.calls.made (Some self.old.pieces) (Some self.new.pieces) result piece.now }
         ensures count { IfOk result (λ count. count ≡ min (length piece.now) self.old.most) }
         ensures fails { IsTrue (fails_next self.old.sends) → IsErr result }
+        ensures sends { IsNextCall self.old.sends self.new.sends }
         ensures unchanged { (self.new.disk ≡ self.old.disk) × (self.new.most ≡ self.old.most) }
         ensures cause { HasWriteCause self.old.sends.faults self.new.sends.faults result piece.now }
         ensures disk { (Some (present self.new.disk) ≡ Some (present self.old.disk)) × (self.new.disk.calls.faults ≡ self.old.disk.calls.faults) }

@@ -1,6 +1,6 @@
 ghost use Rattle.std.specs.Prelude.{◌≡◌, [], Some, length, min, IsTrue, IsErr, IfOk};
 ghost use Rattle.weed_base.specs.Told.{Writes, HasWriteCause};
-ghost use Rattle.weed_base.specs.Calls.{uncalled, fails_next};
+ghost use Rattle.weed_base.specs.Calls.{uncalled, fails_next, IsNextCall};
 
 use crate::mem::calls::Calls;
 use crate::sink::Sink;
@@ -70,6 +70,7 @@ impl Sink for MemSink {
         ensures cause { HasWriteCause self.old.calls.faults self.new.calls.faults result piece.now }
         ensures count { IfOk result (λ count. count ≡ min (length piece.now) self.old.most) }
         ensures fails { IsTrue (fails_next self.old.calls) → IsErr result }
+        ensures calls { IsNextCall self.old.calls self.new.calls }
         ensures most { self.new.most ≡ self.old.most }
     {
         self.calls.begin()?;
