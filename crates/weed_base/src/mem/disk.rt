@@ -1,4 +1,4 @@
-ghost use Rattle.std.specs.Prelude.{◌≡◌, ◌≤◌, ◌<◌, ◌+◌, ◌^◌, [], Some, IfOk, OnOk, IsErr, IsErrOf, MatchResult, IsTrue, false, length};
+ghost use Rattle.std.specs.Prelude.{◌≡◌, ◌≤◌, ◌<◌, ◌+◌, ◌^◌, ◌↔◌, [], Some, IfOk, OnOk, IsErr, IsErrOf, MatchResult, IsTrue, false, length};
 ghost use Rattle.std.specs.Option.{option_map, option_copied};
 ghost use Rattle.std.specs.FinMap.{get, keys};
 ghost use Rattle.weed_base.specs.Told.{HasCause, IsCauseOf};
@@ -127,7 +127,7 @@ impl MemDisk {
     /// A call that changes nothing.
     fn look(&mut self) -> Result<(), Failed>
         ensures after { self.new ≡ record self.old { calls = called self.old.calls } }
-        ensures fails { IsTrue (fails_next self.old.calls) → IsErr result }
+        ensures fails { IsErr result ↔ IsTrue (fails_next self.old.calls) }
         ensures time { Elapses self.old.calls.made self.new.calls.made (images_since self.old) (images_since self.new) (images self.new) }
         ensures cause { HasCause self.old.calls.faults self.new.calls.faults result }
     {
@@ -201,8 +201,9 @@ impl Disk for MemDisk {
     }
 
     fn attach(&mut self, _place: &Word) -> Result<(), Failed>
-        ensures call { IsDiskCall self.old self.new result }
-        ensures past { (self.new.past ≡ self.old.past) × (self.new.untold ≡ self.old.untold) }
+        ensures calls { self.new.calls ≡ called self.old.calls }
+        ensures only { IsErr result ↔ IsTrue (fails_next self.old.calls) }
+        ensures past { (self.new.start ≡ self.old.start) × (self.new.past ≡ self.old.past) × (self.new.untold ≡ self.old.untold) }
         ensures files { Some (present self.new) ≡ Some (present self.old) }
         ensures images { NoMore (images self.old) (images self.new) }
         ensures time { Elapses self.old.calls.made self.new.calls.made (images_since self.old) (images_since self.new) (images self.new) }
@@ -227,8 +228,9 @@ impl Disk for MemDisk {
     }
 
     fn size(&mut self, name: &FileName) -> Result<Option<u64>, Failed>
-        ensures call { IsDiskCall self.old self.new result }
-        ensures past { (self.new.past ≡ self.old.past) × (self.new.untold ≡ self.old.untold) }
+        ensures calls { self.new.calls ≡ called self.old.calls }
+        ensures only { IsErr result ↔ IsTrue (fails_next self.old.calls) }
+        ensures past { (self.new.start ≡ self.old.start) × (self.new.past ≡ self.old.past) × (self.new.untold ≡ self.old.untold) }
         ensures size { IfOk result (λ size. size ≡ option_map length (get (present self.old) name.now)) }
         ensures files { Some (present self.new) ≡ Some (present self.old) }
         ensures images { NoMore (images self.old) (images self.new) }
@@ -240,8 +242,9 @@ impl Disk for MemDisk {
     }
 
     fn read_at(&mut self, name: &FileName, at: u64, room: &mut [u8]) -> Result<usize, Failed>
-        ensures call { IsDiskCall self.old self.new result }
-        ensures past { (self.new.past ≡ self.old.past) × (self.new.untold ≡ self.old.untold) }
+        ensures calls { self.new.calls ≡ called self.old.calls }
+        ensures only { IsErr result ↔ IsTrue (fails_next self.old.calls) }
+        ensures past { (self.new.start ≡ self.old.start) × (self.new.past ≡ self.old.past) × (self.new.untold ≡ self.old.untold) }
         ensures bound { IfOk result (λ count. count ≤ length room.new) }
         ensures bytes { IfOk result (λ count. ReadsAt (content (present self.old) name.now) at count room.new) }
         ensures files { Some (present self.new) ≡ Some (present self.old) }
