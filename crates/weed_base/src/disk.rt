@@ -1,4 +1,4 @@
-ghost use Rattle.std.specs.Prelude.{◌≡◌, ◌≤◌, ◌<◌, ◌↔◌, ◌+◌, ◌^◌, ◌⊎◌, List, ℕ, Bool, IsTrue, false, Option, Some, IfSome, IfOk, OnOk, IsErrOf, MatchResult, length, take, drop, min};
+ghost use Rattle.std.specs.Prelude.{◌≡◌, ◌≤◌, ◌<◌, ◌↔◌, ◌+◌, ◌-◌, ◌^◌, ◌⊎◌, List, ℕ, Bool, IsTrue, false, Option, Some, IfSome, IfOk, OnOk, IsErr, IsErrOf, MatchResult, length, take, drop, min};
 ghost use Rattle.std.specs.Option.{option_map};
 ghost use Rattle.std.specs.FinMap.{get, keys};
 ghost use Rattle.weed_base.specs.Told.{HasCause, HasWriteCause, IsCauseOf};
@@ -86,7 +86,8 @@ pub trait Disk {
         ensures images { NoMore (images self.old) (images self.new) }
         ensures time { Elapses (tick self.old) (tick self.new) (image_since self.old) (image_since self.new) (images self.new) }
         ensures cause { HasCause (faults self.old) (faults self.new) result }
-        ensures sent { (sent self.new ≡ sent self.old) × (send_faults self.new ≡ send_faults self.old) };
+        ensures sent { (sent self.new ≡ sent self.old) × (send_faults self.new ≡ send_faults self.old) }
+        ensures spent { tick self.old ≡ 2 ^ 64 - 1 → IsErr result };
 
     /// All names, in byte order.
     fn names(&mut self, alloc: Global) -> Result<Items<FileName>, NamesFault>
@@ -95,7 +96,8 @@ pub trait Disk {
         ensures images { NoMore (images self.old) (images self.new) }
         ensures time { Elapses (tick self.old) (tick self.new) (image_since self.old) (image_since self.new) (images self.new) }
         ensures cause { IsCauseOf (faults self.old) (faults self.new) (IsErrOf result NamesFault.Failed) }
-        ensures sent { (sent self.new ≡ sent self.old) × (send_faults self.new ≡ send_faults self.old) };
+        ensures sent { (sent self.new ≡ sent self.old) × (send_faults self.new ≡ send_faults self.old) }
+        ensures spent { tick self.old ≡ 2 ^ 64 - 1 → IsErr result };
 
     /// The length of a file in bytes; `None` exactly where it isn't there.
     fn size(&mut self, name: &FileName) -> Result<Option<u64>, Failed>
@@ -104,7 +106,8 @@ pub trait Disk {
         ensures images { NoMore (images self.old) (images self.new) }
         ensures time { Elapses (tick self.old) (tick self.new) (image_since self.old) (image_since self.new) (images self.new) }
         ensures cause { HasCause (faults self.old) (faults self.new) result }
-        ensures sent { (sent self.new ≡ sent self.old) × (send_faults self.new ≡ send_faults self.old) };
+        ensures sent { (sent self.new ≡ sent self.old) × (send_faults self.new ≡ send_faults self.old) }
+        ensures spent { tick self.old ≡ 2 ^ 64 - 1 → IsErr result };
 
     /// Puts the file's bytes from `at` on into the front of `room`, as many as there are and fit, and
     /// answers how many; none where the file isn't there.
@@ -115,7 +118,8 @@ pub trait Disk {
         ensures images { NoMore (images self.old) (images self.new) }
         ensures time { Elapses (tick self.old) (tick self.new) (image_since self.old) (image_since self.new) (images self.new) }
         ensures cause { HasCause (faults self.old) (faults self.new) result }
-        ensures sent { (sent self.new ≡ sent self.old) × (send_faults self.new ≡ send_faults self.old) };
+        ensures sent { (sent self.new ≡ sent self.old) × (send_faults self.new ≡ send_faults self.old) }
+        ensures spent { tick self.old ≡ 2 ^ 64 - 1 → IsErr result };
 
     /// Writes the piece over what is there, and past the end. A write whose end would pass 2^63 - 1 fails.
     /// After a failure its range may hold anything.
@@ -128,7 +132,8 @@ pub trait Disk {
         ensures images { Follows (Tears name.now at (length piece.now)) (images self.old) (images self.new) }
         ensures time { Elapses (tick self.old) (tick self.new) (image_since self.old) (image_since self.new) (images self.new) }
         ensures cause { HasCause (faults self.old) (faults self.new) result }
-        ensures sent { (sent self.new ≡ sent self.old) × (send_faults self.new ≡ send_faults self.old) };
+        ensures sent { (sent self.new ≡ sent self.old) × (send_faults self.new ≡ send_faults self.old) }
+        ensures spent { tick self.old ≡ 2 ^ 64 - 1 → IsErr result };
 
     /// Cuts a file to a length. After a failure it reads as before or as after.
     fn cut(&mut self, name: &FileName, to: u64) -> Result<(), Failed>
@@ -137,7 +142,8 @@ pub trait Disk {
         ensures images { Follows (Takes (where_there name.now (cut_to name.now to))) (images self.old) (images self.new) }
         ensures time { Elapses (tick self.old) (tick self.new) (image_since self.old) (image_since self.new) (images self.new) }
         ensures cause { HasCause (faults self.old) (faults self.new) result }
-        ensures sent { (sent self.new ≡ sent self.old) × (send_faults self.new ≡ send_faults self.old) };
+        ensures sent { (sent self.new ≡ sent self.old) × (send_faults self.new ≡ send_faults self.old) }
+        ensures spent { tick self.old ≡ 2 ^ 64 - 1 → IsErr result };
 
     /// Makes the file, there and empty. After a failure it reads as before or as after.
     fn make(&mut self, name: &FileName) -> Result<(), Failed>
@@ -146,7 +152,8 @@ pub trait Disk {
         ensures images { Follows (Takes (made name.now)) (images self.old) (images self.new) }
         ensures time { Elapses (tick self.old) (tick self.new) (image_since self.old) (image_since self.new) (images self.new) }
         ensures cause { HasCause (faults self.old) (faults self.new) result }
-        ensures sent { (sent self.new ≡ sent self.old) × (send_faults self.new ≡ send_faults self.old) };
+        ensures sent { (sent self.new ≡ sent self.old) × (send_faults self.new ≡ send_faults self.old) }
+        ensures spent { tick self.old ≡ 2 ^ 64 - 1 → IsErr result };
 
     /// Removes the file, where it is there. After a failure it reads as before or as after.
     fn remove(&mut self, name: &FileName) -> Result<(), Failed>
@@ -154,7 +161,8 @@ pub trait Disk {
         ensures images { Follows (Takes (removed name.now)) (images self.old) (images self.new) }
         ensures time { Elapses (tick self.old) (tick self.new) (image_since self.old) (image_since self.new) (images self.new) }
         ensures cause { HasCause (faults self.old) (faults self.new) result }
-        ensures sent { (sent self.new ≡ sent self.old) × (send_faults self.new ≡ send_faults self.old) };
+        ensures sent { (sent self.new ≡ sent self.old) × (send_faults self.new ≡ send_faults self.old) }
+        ensures spent { tick self.old ≡ 2 ^ 64 - 1 → IsErr result };
 
     /// Renames a file, which takes the place of what had the new name. After a failure both names read as
     /// before or as after.
@@ -165,7 +173,8 @@ pub trait Disk {
         ensures images { Follows (Takes (where_there from.now (renamed from.now to.now))) (images self.old) (images self.new) }
         ensures time { Elapses (tick self.old) (tick self.new) (image_since self.old) (image_since self.new) (images self.new) }
         ensures cause { HasCause (faults self.old) (faults self.new) result }
-        ensures sent { (sent self.new ≡ sent self.old) × (send_faults self.new ≡ send_faults self.old) };
+        ensures sent { (sent self.new ≡ sent self.old) × (send_faults self.new ≡ send_faults self.old) }
+        ensures spent { tick self.old ≡ 2 ^ 64 - 1 → IsErr result };
 
     /// Settles all files and names.
     fn sync(&mut self) -> Result<(), Failed>
@@ -174,7 +183,8 @@ pub trait Disk {
         ensures settled { OnOk result (Only (files self.old) (images self.new)) }
         ensures time { Elapses (tick self.old) (tick self.new) (image_since self.old) (image_since self.new) (images self.new) }
         ensures cause { HasCause (faults self.old) (faults self.new) result }
-        ensures sent { (sent self.new ≡ sent self.old) × (send_faults self.new ≡ send_faults self.old) };
+        ensures sent { (sent self.new ≡ sent self.old) × (send_faults self.new ≡ send_faults self.old) }
+        ensures spent { tick self.old ≡ 2 ^ 64 - 1 → IsErr result };
 
     /// This moment is one of those since an earlier one.
     ghost counts_now: { (disk : Self) (moment : ℕ) (image : Files) → moment ≤ tick disk → images disk image → image_since disk moment image };
@@ -184,6 +194,9 @@ pub trait Disk {
 
     /// What reads give may be left.
     ghost reads_now: { (disk : Self) (read : Files) → files disk ≡ Some read → images disk read };
+
+    /// Where it holds marks alone, no other name is ever there.
+    ghost marks_only: { (disk : Self) (read : Files) (name : List ℕ) → files disk ≡ Some read → IsThere name read → MayBeNamed MARKS_ONLY name };
 }
 
 /// A disk with a way out: what a command answers goes through it, so that a disk can tell what was on it

@@ -1,4 +1,4 @@
-ghost use Rattle.std.specs.Prelude.{◌≡◌, ◌≤◌, ◌<◌, ◌+◌, ◌^◌, ◌↔◌, IsTrue, IsErr, OnOk};
+ghost use Rattle.std.specs.Prelude.{◌≡◌, ◌≤◌, ◌<◌, ◌+◌, ◌-◌, ◌^◌, ◌↔◌, IsTrue, IsErr, OnOk};
 ghost use Rattle.weed_base.specs.Told.{HasCause};
 ghost use Rattle.weed_base.specs.Calls.{uncalled, fails_next, with_fault, called};
 
@@ -53,6 +53,7 @@ impl Calls {
     fn fails_next(&self) -> bool
         ensures value { result ≡ fails_next self.now }
         ensures limit { self.now.from < 2 ^ 64 }
+        ensures spent { self.now.made ≡ 2 ^ 64 - 1 → IsTrue (fails_next self.now) }
     {
         self.from <= self.made || self.failing.contains(&self.made)
     }
@@ -67,6 +68,7 @@ impl Calls {
     /// Begins a call, and counts the fault where it fails.
     pub(crate) fn begin(&mut self) -> Result<(), Failed>
         ensures fails { IsErr result ↔ IsTrue (fails_next self.old) }
+        ensures spent { self.old.made ≡ 2 ^ 64 - 1 → IsErr result }
         ensures after { self.new ≡ called self.old }
         ensures later { self.old.made ≤ self.new.made }
         ensures next { OnOk result (self.new.made ≡ self.old.made + 1) }

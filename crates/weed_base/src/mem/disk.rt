@@ -1,6 +1,7 @@
-ghost use Rattle.std.specs.Prelude.{◌≡◌, ◌≤◌, ◌<◌, ◌+◌, ◌^◌, ◌↔◌, [], Some, IfOk, OnOk, IsErr, IsErrOf, MatchResult, IsTrue, false, length};
+ghost use Rattle.std.specs.Prelude.{◌≡◌, ◌≤◌, ◌<◌, ◌+◌, ◌-◌, ◌^◌, ◌↔◌, [], Some, IfOk, OnOk, IsErr, IsErrOf, MatchResult, IsTrue, false, length};
 ghost use Rattle.std.specs.Option.{option_map, option_copied};
 ghost use Rattle.std.specs.FinMap.{get, keys};
+ghost use Rattle.std.proofs.lemmas.Bool.{false≢true};
 ghost use Rattle.weed_base.specs.Told.{HasCause, IsCauseOf};
 ghost use Rattle.weed_base.specs.Calls.{called, fails_next};
 ghost use Rattle.weed_base.specs.Files.{IsWithin, IsThere, written, cut_to, made, removed, renamed, content, MayWrite, Changes, ReadsAt};
@@ -130,6 +131,7 @@ impl MemDisk {
         ensures fails { IsErr result ↔ IsTrue (fails_next self.old.calls) }
         ensures time { Elapses self.old.calls.made self.new.calls.made (images_since self.old) (images_since self.new) (images self.new) }
         ensures cause { HasCause self.old.calls.faults self.new.calls.faults result }
+        ensures spent { self.old.calls.made ≡ 2 ^ 64 - 1 → IsErr result }
     {
         self.calls.begin()
     }
@@ -140,6 +142,7 @@ impl MemDisk {
         ensures makes { Makes change self.old self.new result }
         ensures time { Elapses self.old.calls.made self.new.calls.made (images_since self.old) (images_since self.new) (images self.new) }
         ensures cause { HasCause self.old.calls.faults self.new.calls.faults result }
+        ensures spent { self.old.calls.made ≡ 2 ^ 64 - 1 → IsErr result }
     {
         let tick = self.calls.made();
         self.calls.begin()?;
@@ -157,6 +160,7 @@ impl MemDisk {
         ensures bound { OnOk result (at + length piece.now < 2 ^ 63) }
         ensures time { Elapses self.old.calls.made self.new.calls.made (images_since self.old) (images_since self.new) (images self.new) }
         ensures cause { HasCause self.old.calls.faults self.new.calls.faults result }
+        ensures spent { self.old.calls.made ≡ 2 ^ 64 - 1 → IsErr result }
     {
         let tick = self.calls.made();
         if self.calls.begin().is_err() {
@@ -196,6 +200,8 @@ impl Disk for MemDisk {
 
     ghost reads_now = { reads_now };
 
+    ghost marks_only = { λ disk read name told there marks. absurd (false≢true marks) };
+
     fn tick(&self) -> u64 {
         self.calls.made()
     }
@@ -208,6 +214,7 @@ impl Disk for MemDisk {
         ensures images { NoMore (images self.old) (images self.new) }
         ensures time { Elapses self.old.calls.made self.new.calls.made (images_since self.old) (images_since self.new) (images self.new) }
         ensures cause { HasCause self.old.calls.faults self.new.calls.faults result }
+        ensures spent { self.old.calls.made ≡ 2 ^ 64 - 1 → IsErr result }
     {
         self.look()
     }
@@ -220,6 +227,7 @@ impl Disk for MemDisk {
         ensures images { NoMore (images self.old) (images self.new) }
         ensures time { Elapses self.old.calls.made self.new.calls.made (images_since self.old) (images_since self.new) (images self.new) }
         ensures cause { IsCauseOf self.old.calls.faults self.new.calls.faults (IsErrOf result NamesFault.Failed) }
+        ensures spent { self.old.calls.made ≡ 2 ^ 64 - 1 → IsErr result }
     {
         if self.look().is_err() {
             return Err(NamesFault::Failed);
@@ -236,6 +244,7 @@ impl Disk for MemDisk {
         ensures images { NoMore (images self.old) (images self.new) }
         ensures time { Elapses self.old.calls.made self.new.calls.made (images_since self.old) (images_since self.new) (images self.new) }
         ensures cause { HasCause self.old.calls.faults self.new.calls.faults result }
+        ensures spent { self.old.calls.made ≡ 2 ^ 64 - 1 → IsErr result }
     {
         self.look()?;
         Ok(self.content(name).map(|bytes| bytes.len() as u64))
@@ -251,6 +260,7 @@ impl Disk for MemDisk {
         ensures images { NoMore (images self.old) (images self.new) }
         ensures time { Elapses self.old.calls.made self.new.calls.made (images_since self.old) (images_since self.new) (images self.new) }
         ensures cause { HasCause self.old.calls.faults self.new.calls.faults result }
+        ensures spent { self.old.calls.made ≡ 2 ^ 64 - 1 → IsErr result }
     {
         self.look()?;
         let bytes = self.content(name).unwrap_or(&[]);
@@ -269,6 +279,7 @@ impl Disk for MemDisk {
         ensures images { Follows (Tears name.now at (length piece.now)) (images self.old) (images self.new) }
         ensures time { Elapses self.old.calls.made self.new.calls.made (images_since self.old) (images_since self.new) (images self.new) }
         ensures cause { HasCause self.old.calls.faults self.new.calls.faults result }
+        ensures spent { self.old.calls.made ≡ 2 ^ 64 - 1 → IsErr result }
     {
         self.write(name, at, piece)
     }
@@ -281,6 +292,7 @@ impl Disk for MemDisk {
         ensures images { Follows (Takes (where_there name.now (cut_to name.now to))) (images self.old) (images self.new) }
         ensures time { Elapses self.old.calls.made self.new.calls.made (images_since self.old) (images_since self.new) (images self.new) }
         ensures cause { HasCause self.old.calls.faults self.new.calls.faults result }
+        ensures spent { self.old.calls.made ≡ 2 ^ 64 - 1 → IsErr result }
     {
         let name = name.copy();
         self.change(Change::Cut { name, to })
@@ -293,6 +305,7 @@ impl Disk for MemDisk {
         ensures images { Follows (Takes (made name.now)) (images self.old) (images self.new) }
         ensures time { Elapses self.old.calls.made self.new.calls.made (images_since self.old) (images_since self.new) (images self.new) }
         ensures cause { HasCause self.old.calls.faults self.new.calls.faults result }
+        ensures spent { self.old.calls.made ≡ 2 ^ 64 - 1 → IsErr result }
     {
         let name = name.copy();
         self.change(Change::Made { name })
@@ -305,6 +318,7 @@ impl Disk for MemDisk {
         ensures images { Follows (Takes (removed name.now)) (images self.old) (images self.new) }
         ensures time { Elapses self.old.calls.made self.new.calls.made (images_since self.old) (images_since self.new) (images self.new) }
         ensures cause { HasCause self.old.calls.faults self.new.calls.faults result }
+        ensures spent { self.old.calls.made ≡ 2 ^ 64 - 1 → IsErr result }
     {
         let name = name.copy();
         self.change(Change::Removed { name })
@@ -318,6 +332,7 @@ impl Disk for MemDisk {
         ensures images { Follows (Takes (where_there from.now (renamed from.now to.now))) (images self.old) (images self.new) }
         ensures time { Elapses self.old.calls.made self.new.calls.made (images_since self.old) (images_since self.new) (images self.new) }
         ensures cause { HasCause self.old.calls.faults self.new.calls.faults result }
+        ensures spent { self.old.calls.made ≡ 2 ^ 64 - 1 → IsErr result }
     {
         let from = from.copy();
         let to = to.copy();
@@ -332,6 +347,7 @@ impl Disk for MemDisk {
         ensures settled { OnOk result (Only (Some (present self.old)) (images self.new)) }
         ensures time { Elapses self.old.calls.made self.new.calls.made (images_since self.old) (images_since self.new) (images self.new) }
         ensures cause { HasCause self.old.calls.faults self.new.calls.faults result }
+        ensures spent { self.old.calls.made ≡ 2 ^ 64 - 1 → IsErr result }
     {
         self.change(Change::Synced)
     }

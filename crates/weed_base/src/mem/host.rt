@@ -1,4 +1,5 @@
 ghost use Rattle.std.specs.Prelude.{◌≡◌, [], Some, false, refl, length, min, IfOk, IsErr, IsTrue};
+ghost use Rattle.std.proofs.lemmas.Bool.{false≢true};
 ghost use Rattle.weed_base.specs.Told.{HasWriteCause};
 ghost use Rattle.weed_base.specs.Calls.{uncalled, fails_next, IsNextCall};
 ghost use Rattle.weed_base.specs.Images.{StandsStill};
@@ -129,6 +130,8 @@ impl Disk for MemHost {
     ghost only_now = { λ host. only_now host.disk };
 
     ghost reads_now = { λ host. reads_now host.disk };
+
+    ghost marks_only = { λ host read name told there marks. absurd (false≢true marks) };
 
     fn tick(&self) -> u64 {
         self.disk.tick()

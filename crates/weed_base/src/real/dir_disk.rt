@@ -1,4 +1,5 @@
-ghost use Rattle.std.specs.Prelude.{◌≡◌, ◌≤◌, None, false, IfOk, length};
+ghost use Rattle.std.specs.Prelude.{◌≡◌, ◌≤◌, ◌-◌, ◌^◌, None, false, IsErr, IfOk, length};
+ghost use Rattle.std.proofs.lemmas.Bool.{false≢true};
 ghost use Rattle.std.proofs.lemmas.Option.{none-some};
 ghost use Rattle.weed_base.specs.Told.{raised, HasCause};
 
@@ -106,6 +107,7 @@ impl<R: Files<File = File> + AllocGlobal + Clone + Drop> DirDisk<R> {
         ensures made { self.new.made ≡ raised self.old.made }
         ensures later { self.old.made ≤ self.new.made }
         ensures cause { HasCause self.old.faults self.new.faults result }
+        ensures spent { self.old.made ≡ 2 ^ 64 - 1 → IsErr result }
     {
         if self.made == u64::MAX {
             return Err(self.faults.raise());
@@ -120,6 +122,7 @@ impl<R: Files<File = File> + AllocGlobal + Clone + Drop> DirDisk<R> {
         ensures made { self.new.made ≡ raised self.old.made }
         ensures later { self.old.made ≤ self.new.made }
         ensures cause { HasCause self.old.faults self.new.faults result }
+        ensures spent { self.old.made ≡ 2 ^ 64 - 1 → IsErr result }
     {
         self.begin()?;
         let answer = self.state.attached().and_then(call);
@@ -151,6 +154,8 @@ impl<R: Files<File = File> + AllocGlobal + Clone + Drop> Disk for DirDisk<R> {
     ghost only_now = { λ disk image now. now };
 
     ghost reads_now = { λ disk read told. absurd (none-some read told) };
+
+    ghost marks_only = { λ disk read name told there marks. absurd (false≢true marks) };
 
     fn tick(&self) -> u64 {
         self.made

@@ -1,4 +1,5 @@
 ghost use Rattle.std.specs.Prelude.{◌≡◌, None, false, refl};
+ghost use Rattle.std.proofs.lemmas.Bool.{false≢true};
 ghost use Rattle.std.proofs.lemmas.Option.{none-some};
 
 use crate::bytes::Word;
@@ -80,6 +81,8 @@ impl<R: Files<File = File> + AllocGlobal + Clone + Drop, W: Write> Disk for DirH
     ghost only_now = { λ disk image now. now };
 
     ghost reads_now = { λ disk read told. absurd (none-some read told) };
+
+    ghost marks_only = { λ disk read name told there marks. absurd (false≢true marks) };
 
     fn tick(&self) -> u64 {
         self.disk.tick()
