@@ -278,7 +278,9 @@ fn an_append_whose_call_fails_leaves_the_record_out_or_in(rt: HostRuntime) -> Re
 
 /// How many records are found in what a crash at a tick leaves: what was settled, all that was done, or ones
 /// in place of what wasn't settled.
-fn counts_after_crash(alloc: Global, disk: &MemDisk, tick: u64) -> Result<[u64; 3], Fail> {
+fn counts_after_crash(alloc: Global, disk: &MemDisk, tick: u64) -> Result<[u64; 3], Fail>
+    requires { tick ≤ disk.now.calls.made }
+{
     Ok([
         count_after_crash(alloc, disk, tick, Pick::Old)?,
         count_after_crash(alloc, disk, tick, Pick::New)?,
@@ -286,7 +288,9 @@ fn counts_after_crash(alloc: Global, disk: &MemDisk, tick: u64) -> Result<[u64; 
     ])
 }
 
-fn count_after_crash(alloc: Global, disk: &MemDisk, tick: u64, pick: Pick) -> Result<u64, Fail> {
+fn count_after_crash(alloc: Global, disk: &MemDisk, tick: u64, pick: Pick) -> Result<u64, Fail>
+    requires { tick ≤ disk.now.calls.made }
+{
     let mut image = disk.image(tick, pick)?;
     Ok(MetaLog::open(alloc, &mut image)?.front().count)
 }
