@@ -52,6 +52,7 @@ impl GateLog {
         ensures others { BothTold (LeavesOthers stem) (D.files disk.old) (D.files disk.new) }
         ensures cause { IsCauseOf (D.faults disk.old) (D.faults disk.new) (IsErrOf result LogFault.DiskFault) }
         ensures sent { (D.sent disk.new ≡ D.sent disk.old) × (D.send_faults disk.new ≡ D.send_faults disk.old) }
+        ensures attachment { D.attachment disk.new ≡ D.attachment disk.old }
     {
         let gate = open_stem(alloc, disk, stem)?;
         Ok(GateLog { stem, gate })
@@ -83,6 +84,7 @@ impl GateLog {
         ensures others { BothTold (ChangesOnly (segment_name (stem_of self.old) 1)) (D.files disk.old) (D.files disk.new) }
         ensures cause { HasCause (D.faults disk.old) (D.faults disk.new) result }
         ensures sent { (D.sent disk.new ≡ D.sent disk.old) × (D.send_faults disk.new ≡ D.send_faults disk.old) }
+        ensures attachment { D.attachment disk.new ≡ D.attachment disk.old }
     {
         let segment = first_segment(self.stem);
         let behind = text.ready();
@@ -116,6 +118,7 @@ impl GateLog {
         ensures still { OnlyReads D.tick D.images D.image_since disk.old disk.new }
         ensures cause { IsCauseOf (D.faults disk.old) (D.faults disk.new) (IsErrOf result LogFault.DiskFault) }
         ensures sent { (D.sent disk.new ≡ D.sent disk.old) × (D.send_faults disk.new ≡ D.send_faults disk.old) }
+        ensures attachment { D.attachment disk.new ≡ D.attachment disk.old }
     {
         let name = first_segment(self.stem);
         let mut reading = Reading::begin(alloc, disk, &name, place.at)?;

@@ -45,6 +45,7 @@ pub fn left_head<D: Disk>(
     ensures still { OnlyReads D.tick D.images D.image_since disk.old disk.new }
     ensures cause { IsCauseOf (D.faults disk.old) (D.faults disk.new) (IsErrOf result LogFault.DiskFault) }
     ensures sent { (D.sent disk.new ≡ D.sent disk.old) × (D.send_faults disk.new ≡ D.send_faults disk.old) }
+    ensures attachment { D.attachment disk.new ≡ D.attachment disk.old }
 {
     if reading.at() >= gate {
         return Ok(Head::Closed);
@@ -73,6 +74,7 @@ fn take_text<D: Disk>(
     ensures still { OnlyReads D.tick D.images D.image_since disk.old disk.new }
     ensures cause { IsCauseOf (D.faults disk.old) (D.faults disk.new) (IsErrOf result LogFault.DiskFault) }
     ensures sent { (D.sent disk.new ≡ D.sent disk.old) × (D.send_faults disk.new ≡ D.send_faults disk.old) }
+    ensures attachment { D.attachment disk.new ≡ D.attachment disk.old }
 {
     match left_head(disk, name, gate, reading)? {
         Head::Closed => Ok(None),
@@ -109,6 +111,7 @@ pub fn collect<D: Disk>(
     ensures still { OnlyReads D.tick D.images D.image_since disk.old disk.new }
     ensures cause { IsCauseOf (D.faults disk.old) (D.faults disk.new) (IsErrOf result LogFault.DiskFault) }
     ensures sent { (D.sent disk.new ≡ D.sent disk.old) × (D.send_faults disk.new ≡ D.send_faults disk.old) }
+    ensures attachment { D.attachment disk.new ≡ D.attachment disk.old }
 {
     let mut texts = Vec::new(alloc);
     let mut bytes = 0;

@@ -20,6 +20,7 @@ fn make_segment<D: Disk>(disk: &mut D, stem: Stem) -> Result<(), Failed>
     ensures others { BothTold (ChangesOnly (segment_name stem 1)) (D.files disk.old) (D.files disk.new) }
     ensures cause { HasCause (D.faults disk.old) (D.faults disk.new) result }
     ensures sent { (D.sent disk.new ≡ D.sent disk.old) × (D.send_faults disk.new ≡ D.send_faults disk.old) }
+    ensures attachment { D.attachment disk.new ≡ D.attachment disk.old }
 {
     let segment = first_segment(stem);
     disk.make(&segment)?;
@@ -37,6 +38,7 @@ fn make_on<D: Disk>(disk: &mut D, stem: Stem) -> Result<(), Failed>
     ensures others { BothTold (ChangesOnly (on_name stem 1)) (D.files disk.old) (D.files disk.new) }
     ensures cause { HasCause (D.faults disk.old) (D.faults disk.new) result }
     ensures sent { (D.sent disk.new ≡ D.sent disk.old) × (D.send_faults disk.new ≡ D.send_faults disk.old) }
+    ensures attachment { D.attachment disk.new ≡ D.attachment disk.old }
 {
     disk.make(&first_on(stem))?;
     disk.sync()
@@ -53,6 +55,7 @@ pub fn make_first<D: Disk>(disk: &mut D, stem: Stem) -> Result<(), Failed>
     ensures others { BothTold (LeavesOthers stem) (D.files disk.old) (D.files disk.new) }
     ensures cause { HasCause (D.faults disk.old) (D.faults disk.new) result }
     ensures sent { (D.sent disk.new ≡ D.sent disk.old) × (D.send_faults disk.new ≡ D.send_faults disk.old) }
+    ensures attachment { D.attachment disk.new ≡ D.attachment disk.old }
 {
     make_segment(disk, stem)?;
     make_on(disk, stem)

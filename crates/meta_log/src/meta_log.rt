@@ -63,6 +63,7 @@ impl MetaLog {
         ensures others { BothTold (LeavesOthers Log) (D.files disk.old) (D.files disk.new) }
         ensures cause { IsCauseOf (D.faults disk.old) (D.faults disk.new) (IsErrOf result LogFault.DiskFault) }
         ensures sent { (D.sent disk.new ≡ D.sent disk.old) × (D.send_faults disk.new ≡ D.send_faults disk.old) }
+        ensures attachment { D.attachment disk.new ≡ D.attachment disk.old }
     {
         let mut records = RisingRecords {
             front: Front { count: 0, time: 0 },
@@ -109,6 +110,7 @@ impl MetaLog {
         ensures others { BothTold (ChangesOnly (segment_name Log 1)) (D.files disk.old) (D.files disk.new) }
         ensures cause { HasCause (D.faults disk.old) (D.faults disk.new) result }
         ensures sent { (D.sent disk.new ≡ D.sent disk.old) × (D.send_faults disk.new ≡ D.send_faults disk.old) }
+        ensures attachment { D.attachment disk.new ≡ D.attachment disk.old }
     {
         self.log.append(disk, text)?;
         self.front = Front {
@@ -135,6 +137,7 @@ impl MetaLog {
         ensures still { OnlyReads D.tick D.images D.image_since disk.old disk.new }
         ensures cause { IsCauseOf (D.faults disk.old) (D.faults disk.new) (IsErrOf result LogFault.DiskFault) }
         ensures sent { (D.sent disk.new ≡ D.sent disk.old) × (D.send_faults disk.new ≡ D.send_faults disk.old) }
+        ensures attachment { D.attachment disk.new ≡ D.attachment disk.old }
     {
         let name = first_segment(Stem::Log);
         let mut reading = Reading::begin(alloc, disk, &name, 0)?;
@@ -177,6 +180,7 @@ impl MetaLog {
         ensures still { OnlyReads D.tick D.images D.image_since disk.old disk.new }
         ensures cause { IsCauseOf (D.faults disk.old) (D.faults disk.new) (IsErrOf result LogFault.DiskFault) }
         ensures sent { (D.sent disk.new ≡ D.sent disk.old) × (D.send_faults disk.new ≡ D.send_faults disk.old) }
+        ensures attachment { D.attachment disk.new ≡ D.attachment disk.old }
     {
         self.log.read_from(alloc, disk, place, room)
     }

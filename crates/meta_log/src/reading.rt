@@ -59,6 +59,7 @@ fn extend_from<D: Disk>(
     ensures still { OnlyReads D.tick D.images D.image_since disk.old disk.new }
     ensures cause { IsCauseOf (D.faults disk.old) (D.faults disk.new) (IsErrOf result LogFault.DiskFault) }
     ensures sent { (D.sent disk.new ≡ D.sent disk.old) × (D.send_faults disk.new ≡ D.send_faults disk.old) }
+    ensures attachment { D.attachment disk.new ≡ D.attachment disk.old }
 {
     let end = bytes.len();
     bytes.resize(end + room, 0)?;
@@ -94,6 +95,7 @@ impl Reading {
         ensures still { OnlyReads D.tick D.images D.image_since disk.old disk.new }
         ensures cause { HasCause (D.faults disk.old) (D.faults disk.new) result }
         ensures sent { (D.sent disk.new ≡ D.sent disk.old) × (D.send_faults disk.new ≡ D.send_faults disk.old) }
+        ensures attachment { D.attachment disk.new ≡ D.attachment disk.old }
     {
         let size = disk.size(name)?.unwrap_or(0);
         Ok(Reading::new(alloc, at.min(size), size))
@@ -141,6 +143,7 @@ impl Reading {
         ensures still { OnlyReads D.tick D.images D.image_since disk.old disk.new }
         ensures cause { IsCauseOf (D.faults disk.old) (D.faults disk.new) (IsErrOf result LogFault.DiskFault) }
         ensures sent { (D.sent disk.new ≡ D.sent disk.old) × (D.send_faults disk.new ≡ D.send_faults disk.old) }
+        ensures attachment { D.attachment disk.new ≡ D.attachment disk.old }
     {
         let left = (self.size - self.at) as usize;
         let held = self.bytes.len() - self.start;

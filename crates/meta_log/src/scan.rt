@@ -47,6 +47,7 @@ pub fn next_head<D: Disk>(
     ensures still { OnlyReads D.tick D.images D.image_since disk.old disk.new }
     ensures cause { IsCauseOf (D.faults disk.old) (D.faults disk.new) (IsErrOf result LogFault.DiskFault) }
     ensures sent { (D.sent disk.new ≡ D.sent disk.old) × (D.send_faults disk.new ≡ D.send_faults disk.old) }
+    ensures attachment { D.attachment disk.new ≡ D.attachment disk.old }
 {
     reading.fill(disk, name, AHEAD)?;
     let head = head_of(reading.held());
@@ -78,6 +79,7 @@ fn take_step<D: Disk, C: Check>(
     ensures still { OnlyReads D.tick D.images D.image_since disk.old disk.new }
     ensures cause { IsCauseOf (D.faults disk.old) (D.faults disk.new) (IsErrOf result LogFault.DiskFault) }
     ensures sent { (D.sent disk.new ≡ D.sent disk.old) × (D.send_faults disk.new ≡ D.send_faults disk.old) }
+    ensures attachment { D.attachment disk.new ≡ D.attachment disk.old }
 {
     match next_head(disk, name, reading)? {
         Head::Closed => Ok(Step::End),
@@ -111,6 +113,7 @@ pub fn scan<D: Disk, C: Check>(
     ensures still { OnlyReads D.tick D.images D.image_since disk.old disk.new }
     ensures cause { IsCauseOf (D.faults disk.old) (D.faults disk.new) (IsErrOf result LogFault.DiskFault) }
     ensures sent { (D.sent disk.new ≡ D.sent disk.old) × (D.send_faults disk.new ≡ D.send_faults disk.old) }
+    ensures attachment { D.attachment disk.new ≡ D.attachment disk.old }
 {
     let name = first_segment(stem);
     let mut reading = Reading::begin(alloc, disk, &name, 0)?;

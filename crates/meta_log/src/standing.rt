@@ -85,6 +85,7 @@ fn later_counts<D: Disk>(alloc: Global, disk: &mut D, stem: Stem) -> Result<bool
     ensures still { OnlyReads D.tick D.images D.image_since disk.old disk.new }
     ensures cause { IsCauseOf (D.faults disk.old) (D.faults disk.new) (IsErrOf result NamesFault.Failed) }
     ensures sent { (D.sent disk.new ≡ D.sent disk.old) × (D.send_faults disk.new ≡ D.send_faults disk.old) }
+    ensures attachment { D.attachment disk.new ≡ D.attachment disk.old }
 {
     let names = disk.names(alloc)?;
     Ok(any_later_on(stem, names.as_slice()))
@@ -97,6 +98,7 @@ fn first_counts<D: Disk>(disk: &mut D, stem: Stem) -> Result<bool, Failed>
     ensures still { OnlyReads D.tick D.images D.image_since disk.old disk.new }
     ensures cause { HasCause (D.faults disk.old) (D.faults disk.new) result }
     ensures sent { (D.sent disk.new ≡ D.sent disk.old) × (D.send_faults disk.new ≡ D.send_faults disk.old) }
+    ensures attachment { D.attachment disk.new ≡ D.attachment disk.old }
 {
     let size = disk.size(&first_on(stem))?;
     Ok(size.is_some())
@@ -121,6 +123,7 @@ pub fn find_standing<D: Disk>(alloc: Global, disk: &mut D, stem: Stem) -> Result
     ensures still { OnlyReads D.tick D.images D.image_since disk.old disk.new }
     ensures cause { IsCauseOf (D.faults disk.old) (D.faults disk.new) (IsErrOf result LogFault.DiskFault) }
     ensures sent { (D.sent disk.new ≡ D.sent disk.old) × (D.send_faults disk.new ≡ D.send_faults disk.old) }
+    ensures attachment { D.attachment disk.new ≡ D.attachment disk.old }
 {
     let later = later_counts(alloc, disk, stem)?;
     let first = first_counts(disk, stem)?;

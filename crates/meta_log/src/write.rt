@@ -26,6 +26,7 @@ pub fn write_settled<D: Disk>(
     ensures bound { OnOk result (at + length piece.now < 2 ^ 63) }
     ensures cause { HasCause (D.faults disk.old) (D.faults disk.new) result }
     ensures sent { (D.sent disk.new ≡ D.sent disk.old) × (D.send_faults disk.new ≡ D.send_faults disk.old) }
+    ensures attachment { D.attachment disk.new ≡ D.attachment disk.old }
 {
     disk.write_at(name, at, piece)?;
     disk.sync()

@@ -85,6 +85,7 @@ impl PlainFiler {
 
         ensures cause { IsCauseOf (D.faults disk.old) (D.faults disk.new) (IsErrOf result LogFault.DiskFault) }
         ensures sent { (D.sent disk.new ≡ D.sent disk.old) × (D.send_faults disk.new ≡ D.send_faults disk.old) }
+        ensures attachment { D.attachment disk.new ≡ D.attachment disk.old }
     {
         let log = MetaLog::open(alloc, disk)?;
         let names = replay(alloc, disk, &log)?;
@@ -109,6 +110,7 @@ impl PlainFiler {
         ensures cause { IsCauseOf (D.faults disk.old) (D.faults disk.new) (IsErrOf result MakeFault.DiskFault) }
         ensures held { ¬ (IsErrOf result MakeFault.DiskFault) → (records : List Record) × HoldsFiler (D.files disk.new) self.new records }
         ensures sent { (D.sent disk.new ≡ D.sent disk.old) × (D.send_faults disk.new ≡ D.send_faults disk.old) }
+        ensures attachment { D.attachment disk.new ≡ D.attachment disk.old }
     {
         let command = Command::MakeDir { path };
         let last = self.log.front().time;
@@ -141,6 +143,7 @@ impl PlainFiler {
         ensures cause { IsCauseOf (D.faults disk.old) (D.faults disk.new) (IsErrOf result MakeFault.DiskFault) }
         ensures held { ¬ (IsErrOf result MakeFault.DiskFault) → (records : List Record) × HoldsFiler (D.files disk.new) self.new records }
         ensures sent { (D.sent disk.new ≡ D.sent disk.old) × (D.send_faults disk.new ≡ D.send_faults disk.old) }
+        ensures attachment { D.attachment disk.new ≡ D.attachment disk.old }
     {
         let text = planned.write(alloc)?;
         let ready = GateText::make(alloc, text.as_slice())?;

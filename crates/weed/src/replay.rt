@@ -37,6 +37,7 @@ pub fn replay<D: Disk>(alloc: Global, disk: &mut D, log: &MetaLog) -> Result<Nam
     ensures still { OnlyReads D.tick D.images D.image_since disk.old disk.new }
     ensures cause { IsCauseOf (D.faults disk.old) (D.faults disk.new) (IsErrOf result LogFault.DiskFault) }
     ensures sent { (D.sent disk.new ≡ D.sent disk.old) × (D.send_faults disk.new ≡ D.send_faults disk.old) }
+    ensures attachment { D.attachment disk.new ≡ D.attachment disk.old }
 {
     let mut names = NameList::new(alloc);
     let mut rest = Rest {
@@ -67,6 +68,7 @@ fn take_page<D: Disk>(
     ensures still { OnlyReads D.tick D.images D.image_since disk.old disk.new }
     ensures cause { IsCauseOf (D.faults disk.old) (D.faults disk.new) (IsErrOf result LogFault.DiskFault) }
     ensures sent { (D.sent disk.new ≡ D.sent disk.old) × (D.send_faults disk.new ≡ D.send_faults disk.old) }
+    ensures attachment { D.attachment disk.new ≡ D.attachment disk.old }
 {
     let (page, place) = log.read_from(alloc, disk, rest.place, PAGE)?;
     let texts = page.as_slice();

@@ -125,6 +125,7 @@ pub fn reply_to_target<D: Disk, C: Clock>(
     ensures held { ¬ (IsErrOf result ReplyFault.DiskFault) → (records : List Record) × HoldsFiler (D.files disk.new) filer.new records }
     ensures cause { IsCauseOf (D.faults disk.old) (D.faults disk.new) (IsErrOf result ReplyFault.DiskFault) }
     ensures sent { (D.sent disk.new ≡ D.sent disk.old) × (D.send_faults disk.new ≡ D.send_faults disk.old) }
+    ensures attachment { D.attachment disk.new ≡ D.attachment disk.old }
 {
     match Path::read(alloc, path_of_target(target)) {
         Ok(path) => reply_to_path(alloc, filer, disk, clock, path),
@@ -148,6 +149,7 @@ fn reply_to_path<D: Disk, C: Clock>(
     ensures held { ¬ (IsErrOf result ReplyFault.DiskFault) → (records : List Record) × HoldsFiler (D.files disk.new) filer.new records }
     ensures cause { IsCauseOf (D.faults disk.old) (D.faults disk.new) (IsErrOf result ReplyFault.DiskFault) }
     ensures sent { (D.sent disk.new ≡ D.sent disk.old) × (D.send_faults disk.new ≡ D.send_faults disk.old) }
+    ensures attachment { D.attachment disk.new ≡ D.attachment disk.old }
 {
     let made = created_reply(alloc, &path)?;
     let moment = clock.now();

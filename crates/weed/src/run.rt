@@ -139,6 +139,7 @@ fn begin<H: Host>(alloc: Global, dir: &[u8], host: &mut H) -> Result<Session, Ex
     ensures own { (files : Files) → H.files host.old ≡ Some files → IsOwn (H.images host.old) → IfErr result (IfDamagedExit (λ _ _. ⊥)) }
     ensures cause { IsCauseOf (H.faults host.old) (H.faults host.new) (IsErrOf result Exit.DiskFault) }
     ensures sent { (H.sent host.new ≡ H.sent host.old) × (H.send_faults host.new ≡ H.send_faults host.old) }
+    ensures attachment { H.attachment host.new ≡ H.attachment host.old }
 {
     let inbox = Inbox::new(alloc)?;
     let standing = make_standing(alloc)?;
@@ -159,6 +160,7 @@ fn attach<H: Host>(alloc: Global, dir: &[u8], host: &mut H) -> Result<(), Exit>
     ensures still { OnlyReads H.tick H.images H.image_since host.old host.new }
     ensures cause { IsCauseOf (H.faults host.old) (H.faults host.new) (IsErrOf result Exit.DiskFault) }
     ensures sent { (H.sent host.new ≡ H.sent host.old) × (H.send_faults host.new ≡ H.send_faults host.old) }
+    ensures attachment { H.attachment host.new ≡ H.attachment host.old }
 {
     let place = Word::new(alloc, dir)?;
     host.attach(&place)?;

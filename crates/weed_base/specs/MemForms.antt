@@ -3,6 +3,7 @@ use Rattle.std.specs.Prelude.{◌≡◌, ◌<◌, ◌⊎◌, ◌-◌, ◌^◌, �
 use Rattle.std.specs.Coded.{Coded, code_by, coded×, coded_list, coded_ℕ}
 use Rattle.std.specs.FinMap.{code}
 use Rattle.weed_base.specs.Told.{raised}
+use Rattle.weed_base.specs.Attachment.{Attachment, attachment_code, unattached}
 use Rattle.weed_base.specs.Calls.{CallState, fails_next, uncalled, IsNextCall}
 use Rattle.weed_base.specs.Files.{Files}
 use Rattle.weed_base.specs.History.{reads, Image, ImageSince}
@@ -24,13 +25,14 @@ pub record SinkState : Type 0 where
   pub most : ℕ
   pub calls : CallState
 
--- A disk: its files at the start, the calls that changed or settled them, the newest first, its calls, and how many
--- failed writes it lacked memory to keep.
+-- A disk: its files at the start, the calls that changed or settled them, the newest first, its calls, how many
+-- failed writes it lacked memory to keep, and where it was turned to.
 pub record DiskState : Type 0 where
   pub start : Files
   pub past : List Call
   pub calls : CallState
   pub untold : ℕ
+  pub attachment : Attachment
 
 -- The code of calls: that of the fields.
 abbrev pub calls_code : Coded CallState
@@ -43,14 +45,14 @@ calls_code =
 -- The code of what a disk holds: that of its fields.
 abbrev pub disk_code : Coded DiskState
 disk_code =
-    code_by (Files × (List Call × (CallState × ℕ))) (coded× (code (coded_list coded_ℕ) (coded_list coded_ℕ)) (coded× (coded_list call.the_row.coded) (coded× calls_code coded_ℕ)))
-    (λ disk. (disk.start, (disk.past, (disk.calls, disk.untold))))
-    (λ p. record { start = p.0; past = p.1.0; calls = p.1.1.0; untold = p.1.1.1 })
+    code_by (Files × (List Call × (CallState × (ℕ × Attachment)))) (coded× (code (coded_list coded_ℕ) (coded_list coded_ℕ)) (coded× (coded_list call.the_row.coded) (coded× calls_code (coded× coded_ℕ attachment_code))))
+    (λ disk. (disk.start, (disk.past, (disk.calls, (disk.untold, disk.attachment)))))
+    (λ p. record { start = p.0; past = p.1.0; calls = p.1.1.0; untold = p.1.1.1.0; attachment = p.1.1.1.1 })
     (λ _. refl)
 
 -- A disk of these files, all of them settled.
 abbrev pub disk_of : Files → List ℕ → DiskState
-disk_of files failing = record { start = files; past = []; calls = uncalled failing; untold = 0 }
+disk_of files failing = record { start = files; past = []; calls = uncalled failing; untold = 0; attachment = unattached }
 
 -- The files as they read now.
 abbrev pub present : DiskState → Files
@@ -68,6 +70,7 @@ images_since disk = ImageSince disk.start disk.past disk.calls.made
 pub record IsDiskCall {T E : Type 0} (old new : DiskState) (result : Result T E) : Type 0 where
   pub next : IsNextCall old.calls new.calls
   pub start : new.start ≡ old.start
+  pub attachment : new.attachment ≡ old.attachment
   pub fails : IsTrue (fails_next old.calls) → IsErr result
 
 -- The calls with one more, which made a change.

@@ -4,6 +4,7 @@ ghost use Rattle.std.specs.FinMap.{get, keys};
 ghost use Rattle.weed_base.specs.Told.{HasCause, HasWriteCause, IsCauseOf};
 ghost use Rattle.weed_base.specs.Files.{Files, IsWithin, IsThere, written, cut_to, made, removed, renamed, content, MayWrite, BothTold, Changes, ReadsAt, MayBeNamed};
 ghost use Rattle.weed_base.specs.Images.{NoMore, Only, Follows, Tears, Takes, where_there, Elapses, StandsStill};
+ghost use Rattle.weed_base.specs.Attachment.{Attachment, attached_to};
 ghost use Rattle.weed_base.specs.Sent.{Piece, Sends};
 ghost use Rattle.weed_base.specs.declared.disk.NamesFault.TheVariants.{Memory};
 
@@ -66,6 +67,9 @@ pub trait Disk {
     /// How many sends failed.
     ghost send_faults: { Self → ℕ };
 
+    /// Where the disk was turned to.
+    ghost attachment: { Self → Attachment };
+
     /// How many calls were made.
     ghost tick: { Self → ℕ };
 
@@ -81,7 +85,10 @@ pub trait Disk {
 
     /// Turns to the directory at that place, which the real form makes where it isn't there. Memory forms
     /// stay as they are.
-    fn attach(&mut self, place: &Word) -> Result<(), Failed>
+    fn attach(&mut self, place: Word) -> Result<(), Failed>
+        ensures attached { MatchResult result
+            (λ _. attachment self.new ≡ attached_to place (attachment self.old))
+            (λ _. attachment self.new ≡ attachment self.old) }
         ensures files { files self.new ≡ files self.old }
         ensures images { NoMore (images self.old) (images self.new) }
         ensures time { Elapses (tick self.old) (tick self.new) (image_since self.old) (image_since self.new) (images self.new) }
@@ -97,6 +104,7 @@ pub trait Disk {
         ensures time { Elapses (tick self.old) (tick self.new) (image_since self.old) (image_since self.new) (images self.new) }
         ensures cause { IsCauseOf (faults self.old) (faults self.new) (IsErrOf result NamesFault.Failed) }
         ensures sent { (sent self.new ≡ sent self.old) × (send_faults self.new ≡ send_faults self.old) }
+        ensures attachment { attachment self.new ≡ attachment self.old }
         ensures spent { tick self.old ≡ 2 ^ 64 - 1 → IsErr result };
 
     /// The length of a file in bytes; `None` exactly where it isn't there.
@@ -107,6 +115,7 @@ pub trait Disk {
         ensures time { Elapses (tick self.old) (tick self.new) (image_since self.old) (image_since self.new) (images self.new) }
         ensures cause { HasCause (faults self.old) (faults self.new) result }
         ensures sent { (sent self.new ≡ sent self.old) × (send_faults self.new ≡ send_faults self.old) }
+        ensures attachment { attachment self.new ≡ attachment self.old }
         ensures spent { tick self.old ≡ 2 ^ 64 - 1 → IsErr result };
 
     /// Puts the file's bytes from `at` on into the front of `room`, as many as there are and fit, and
@@ -119,6 +128,7 @@ pub trait Disk {
         ensures time { Elapses (tick self.old) (tick self.new) (image_since self.old) (image_since self.new) (images self.new) }
         ensures cause { HasCause (faults self.old) (faults self.new) result }
         ensures sent { (sent self.new ≡ sent self.old) × (send_faults self.new ≡ send_faults self.old) }
+        ensures attachment { attachment self.new ≡ attachment self.old }
         ensures spent { tick self.old ≡ 2 ^ 64 - 1 → IsErr result };
 
     /// Writes the piece over what is there, and past the end. A write whose end would pass 2^63 - 1 fails.
@@ -133,6 +143,7 @@ pub trait Disk {
         ensures time { Elapses (tick self.old) (tick self.new) (image_since self.old) (image_since self.new) (images self.new) }
         ensures cause { HasCause (faults self.old) (faults self.new) result }
         ensures sent { (sent self.new ≡ sent self.old) × (send_faults self.new ≡ send_faults self.old) }
+        ensures attachment { attachment self.new ≡ attachment self.old }
         ensures spent { tick self.old ≡ 2 ^ 64 - 1 → IsErr result };
 
     /// Cuts a file to a length. After a failure it reads as before or as after.
@@ -143,6 +154,7 @@ pub trait Disk {
         ensures time { Elapses (tick self.old) (tick self.new) (image_since self.old) (image_since self.new) (images self.new) }
         ensures cause { HasCause (faults self.old) (faults self.new) result }
         ensures sent { (sent self.new ≡ sent self.old) × (send_faults self.new ≡ send_faults self.old) }
+        ensures attachment { attachment self.new ≡ attachment self.old }
         ensures spent { tick self.old ≡ 2 ^ 64 - 1 → IsErr result };
 
     /// Makes the file, there and empty. After a failure it reads as before or as after.
@@ -153,6 +165,7 @@ pub trait Disk {
         ensures time { Elapses (tick self.old) (tick self.new) (image_since self.old) (image_since self.new) (images self.new) }
         ensures cause { HasCause (faults self.old) (faults self.new) result }
         ensures sent { (sent self.new ≡ sent self.old) × (send_faults self.new ≡ send_faults self.old) }
+        ensures attachment { attachment self.new ≡ attachment self.old }
         ensures spent { tick self.old ≡ 2 ^ 64 - 1 → IsErr result };
 
     /// Removes the file, where it is there. After a failure it reads as before or as after.
@@ -162,6 +175,7 @@ pub trait Disk {
         ensures time { Elapses (tick self.old) (tick self.new) (image_since self.old) (image_since self.new) (images self.new) }
         ensures cause { HasCause (faults self.old) (faults self.new) result }
         ensures sent { (sent self.new ≡ sent self.old) × (send_faults self.new ≡ send_faults self.old) }
+        ensures attachment { attachment self.new ≡ attachment self.old }
         ensures spent { tick self.old ≡ 2 ^ 64 - 1 → IsErr result };
 
     /// Renames a file, which takes the place of what had the new name. After a failure both names read as
@@ -174,6 +188,7 @@ pub trait Disk {
         ensures time { Elapses (tick self.old) (tick self.new) (image_since self.old) (image_since self.new) (images self.new) }
         ensures cause { HasCause (faults self.old) (faults self.new) result }
         ensures sent { (sent self.new ≡ sent self.old) × (send_faults self.new ≡ send_faults self.old) }
+        ensures attachment { attachment self.new ≡ attachment self.old }
         ensures spent { tick self.old ≡ 2 ^ 64 - 1 → IsErr result };
 
     /// Settles all files and names.
@@ -184,6 +199,7 @@ pub trait Disk {
         ensures time { Elapses (tick self.old) (tick self.new) (image_since self.old) (image_since self.new) (images self.new) }
         ensures cause { HasCause (faults self.old) (faults self.new) result }
         ensures sent { (sent self.new ≡ sent self.old) × (send_faults self.new ≡ send_faults self.old) }
+        ensures attachment { attachment self.new ≡ attachment self.old }
         ensures spent { tick self.old ≡ 2 ^ 64 - 1 → IsErr result };
 
     /// This moment is one of those since an earlier one.
@@ -207,6 +223,7 @@ pub trait Host: Disk {
         ensures pieces { Sends (Self.tick self.old) (Self.sent self.old) (Self.sent self.new) result piece.now }
         ensures cause { HasWriteCause (Self.send_faults self.old) (Self.send_faults self.new) result piece.now }
         ensures disk { (Self.files self.new ≡ Self.files self.old) × (Self.faults self.new ≡ Self.faults self.old) }
+        ensures attachment { Self.attachment self.new ≡ Self.attachment self.old }
         ensures still { StandsStill (Self.tick self.old) (Self.tick self.new) (Self.image_since self.old) (Self.image_since self.new) (Self.images self.old) (Self.images self.new) };
 
     /// A host has files of any name.

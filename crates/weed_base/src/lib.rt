@@ -1,6 +1,7 @@
 //! Paths, small byte types, and the outside as traits: what a source, a sink, a clock and a disk tell.
 #![tactic(auto)]
 
+mod attachment;
 mod bytes;
 mod clock;
 mod disk;

@@ -3,6 +3,7 @@ ghost use Rattle.std.specs.Option.{option_map, option_copied};
 ghost use Rattle.std.specs.FinMap.{get, keys};
 ghost use Rattle.std.proofs.lemmas.Bool.{false≢true};
 ghost use Rattle.weed_base.specs.Told.{HasCause, IsCauseOf};
+ghost use Rattle.weed_base.specs.Attachment.{attached_to};
 ghost use Rattle.weed_base.specs.Calls.{called, fails_next};
 ghost use Rattle.weed_base.specs.Files.{IsWithin, IsThere, written, cut_to, made, removed, renamed, content, MayWrite, Changes, ReadsAt};
 ghost use Rattle.weed_base.specs.Images.{NoMore, Only, Follows, Tears, Takes, where_there, Elapses};
@@ -11,6 +12,7 @@ ghost use Rattle.weed_base.specs.MemForms.{IsDiskCall, Makes, WritesOrTears, dis
 ghost use Rattle.weed_base.specs.NamedBytes.{files_from};
 ghost use Rattle.weed_base.specs.DiskLaws.{counts_now, only_now, reads_now};
 
+use crate::attachment::Attachment;
 use crate::bytes::Word;
 use crate::disk::{Disk, NamesFault};
 use crate::faults::Faults;
@@ -36,6 +38,7 @@ pub struct MemDisk {
     past: Vec<Call>,
     calls: Calls,
     untold: Faults,
+    attachment: Attachment,
 }
 
 impl Model for MemDisk {
@@ -48,7 +51,7 @@ impl Model for MemDisk {
 
     ghost coded = { disk_code };
 
-    ghost view = { λ disk. record { start = files_from disk.start.items; past = reverse disk.past.items; calls = disk.calls; untold = disk.untold } };
+    ghost view = { λ disk. record { start = files_from disk.start.items; past = reverse disk.past.items; calls = disk.calls; untold = disk.untold; attachment = disk.attachment } };
 
     ghost invariant = { λ disk. (disk.table ≡ reads (files_from disk.start.items) (reverse disk.past.items)) × IsEarlier disk.calls.made (reverse disk.past.items) };
 }
@@ -69,6 +72,7 @@ impl MemDisk {
             past: Vec::new(alloc),
             calls: Calls::new(failing),
             untold: Faults::new(),
+            attachment: Attachment::new(),
         })
     }
 
@@ -188,6 +192,8 @@ impl Disk for MemDisk {
 
     ghost send_faults = { λ _. 0 };
 
+    ghost attachment = { λ disk. disk.attachment };
+
     ghost tick = { λ disk. disk.calls.made };
 
     ghost images = { images };
@@ -206,7 +212,10 @@ impl Disk for MemDisk {
         self.calls.made()
     }
 
-    fn attach(&mut self, _place: &Word) -> Result<(), Failed>
+    fn attach(&mut self, place: Word) -> Result<(), Failed>
+        ensures attached { MatchResult result
+            (λ _. self.new.attachment ≡ attached_to place self.old.attachment)
+            (λ _. self.new.attachment ≡ self.old.attachment) }
         ensures calls { self.new.calls ≡ called self.old.calls }
         ensures only { IsErr result ↔ IsTrue (fails_next self.old.calls) }
         ensures past { (self.new.start ≡ self.old.start) × (self.new.past ≡ self.old.past) × (self.new.untold ≡ self.old.untold) }
@@ -216,7 +225,9 @@ impl Disk for MemDisk {
         ensures cause { HasCause self.old.calls.faults self.new.calls.faults result }
         ensures spent { self.old.calls.made ≡ 2 ^ 64 - 1 → IsErr result }
     {
-        self.look()
+        self.look()?;
+        self.attachment.turn_to(place);
+        Ok(())
     }
 
     fn names(&mut self, alloc: Global) -> Result<Items<FileName>, NamesFault>
@@ -236,6 +247,7 @@ impl Disk for MemDisk {
     }
 
     fn size(&mut self, name: &FileName) -> Result<Option<u64>, Failed>
+        ensures attachment { self.new.attachment ≡ self.old.attachment }
         ensures calls { self.new.calls ≡ called self.old.calls }
         ensures only { IsErr result ↔ IsTrue (fails_next self.old.calls) }
         ensures past { (self.new.start ≡ self.old.start) × (self.new.past ≡ self.old.past) × (self.new.untold ≡ self.old.untold) }
@@ -251,6 +263,7 @@ impl Disk for MemDisk {
     }
 
     fn read_at(&mut self, name: &FileName, at: u64, room: &mut [u8]) -> Result<usize, Failed>
+        ensures attachment { self.new.attachment ≡ self.old.attachment }
         ensures calls { self.new.calls ≡ called self.old.calls }
         ensures only { IsErr result ↔ IsTrue (fails_next self.old.calls) }
         ensures past { (self.new.start ≡ self.old.start) × (self.new.past ≡ self.old.past) × (self.new.untold ≡ self.old.untold) }

@@ -119,6 +119,8 @@ impl Disk for MemHost {
 
     ghost send_faults = { λ host. host.sends.faults };
 
+    ghost attachment = { λ host. host.disk.attachment };
+
     ghost tick = { λ host. host.disk.calls.made };
 
     ghost images = { λ host. images host.disk };
@@ -137,7 +139,7 @@ impl Disk for MemHost {
         self.disk.tick()
     }
 
-    fn attach(&mut self, place: &Word) -> Result<(), Failed> {
+    fn attach(&mut self, place: Word) -> Result<(), Failed> {
         self.disk.attach(place)
     }
 

@@ -79,6 +79,8 @@ impl Source for MemSource {
 
     ghost faults = { λ source. source.calls.faults };
 
+    ghost reads = { λ source. source.calls.made };
+
     fn read(&mut self, room: &mut [u8]) -> Result<usize, Failed>
         ensures bytes { Reads (Some self.old.left) (Some self.new.left) result room.new }
         ensures cause { HasCause self.old.calls.faults self.new.calls.faults result }

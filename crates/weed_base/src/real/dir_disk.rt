@@ -1,8 +1,10 @@
 ghost use Rattle.std.specs.Prelude.{◌≡◌, ◌≤◌, ◌-◌, ◌^◌, None, false, IsErr, IfOk, length};
 ghost use Rattle.std.proofs.lemmas.Bool.{false≢true};
 ghost use Rattle.std.proofs.lemmas.Option.{none-some};
+ghost use Rattle.weed_base.specs.Attachment.{unattached};
 ghost use Rattle.weed_base.specs.Told.{raised, HasCause};
 
+use crate::attachment::Attachment;
 use crate::bytes::Word;
 use crate::disk::{Disk, NamesFault, ends_in_file};
 use crate::faults::Faults;
@@ -64,7 +66,8 @@ impl<R: Files<File = File> + AllocGlobal + Clone + Drop> State<R> {
     }
 }
 
-/// A disk over a directory of the system. Contracts see how many calls were made, and how many failed.
+/// A disk over a directory of the system. Contracts see how many calls were made, how many failed, and where
+/// it was turned to.
 ///
 /// Each call fails before it is attached, and after a sync or an attach that failed.
 #[derive(Drop)]
@@ -73,6 +76,7 @@ pub struct DirDisk<R> {
     state: State<R>,
     made: u64,
     faults: Faults,
+    attachment: Attachment,
 }
 
 impl<R> Model for DirDisk<R> {
@@ -80,18 +84,19 @@ impl<R> Model for DirDisk<R> {
 
     ghost Value = { DiskCounts };
 
-    ghost view = { λ disk. record { made = disk.made; faults = disk.faults } };
+    ghost view = { λ disk. record { made = disk.made; faults = disk.faults; attachment = disk.attachment } };
 }
 
 impl<R: Files<File = File> + AllocGlobal + Clone + Drop> DirDisk<R> {
     pub fn new(rt: R) -> DirDisk<R>
-        ensures { result ≡ record { made = 0; faults = 0 } }
+        ensures { result ≡ record { made = 0; faults = 0; attachment = unattached } }
     {
         DirDisk {
             rt,
             state: State::Detached,
             made: 0,
             faults: Faults::new(),
+            attachment: Attachment::new(),
         }
     }
 
@@ -105,6 +110,7 @@ impl<R: Files<File = File> + AllocGlobal + Clone + Drop> DirDisk<R> {
     /// Begins a call, and counts the fault where the numbers are used up.
     fn begin(&mut self) -> Result<(), Failed>
         ensures made { self.new.made ≡ raised self.old.made }
+        ensures attachment { self.new.attachment ≡ self.old.attachment }
         ensures later { self.old.made ≤ self.new.made }
         ensures cause { HasCause self.old.faults self.new.faults result }
         ensures spent { self.old.made ≡ 2 ^ 64 - 1 → IsErr result }
@@ -120,6 +126,7 @@ impl<R: Files<File = File> + AllocGlobal + Clone + Drop> DirDisk<R> {
     fn call<T, F: FnOnce(&mut Folder<R>) -> io::Result<T>>(&mut self, call: F) -> Result<T, Failed>
         requires { F.IsAlwaysCallable call }
         ensures made { self.new.made ≡ raised self.old.made }
+        ensures attachment { self.new.attachment ≡ self.old.attachment }
         ensures later { self.old.made ≤ self.new.made }
         ensures cause { HasCause self.old.faults self.new.faults result }
         ensures spent { self.old.made ≡ 2 ^ 64 - 1 → IsErr result }
@@ -143,6 +150,8 @@ impl<R: Files<File = File> + AllocGlobal + Clone + Drop> Disk for DirDisk<R> {
 
     ghost send_faults = { λ _. 0 };
 
+    ghost attachment = { λ disk. disk.attachment };
+
     ghost tick = { λ disk. disk.made };
 
     ghost images = { λ _ _. ⊥ };
@@ -161,10 +170,12 @@ impl<R: Files<File = File> + AllocGlobal + Clone + Drop> Disk for DirDisk<R> {
         self.made
     }
 
-    fn attach(&mut self, place: &Word) -> Result<(), Failed> {
+    fn attach(&mut self, place: Word) -> Result<(), Failed> {
         self.begin()?;
         let answer = self.state.attach(&self.rt, place.as_slice());
-        self.faults.note(answer)
+        self.faults.note(answer)?;
+        self.attachment.turn_to(place);
+        Ok(())
     }
 
     fn names(&mut self, alloc: Global) -> Result<Items<FileName>, NamesFault> {

@@ -1,6 +1,7 @@
 ghost use Rattle.std.specs.Prelude.{◌≡◌, None, false, refl};
 ghost use Rattle.std.proofs.lemmas.Bool.{false≢true};
 ghost use Rattle.std.proofs.lemmas.Option.{none-some};
+ghost use Rattle.weed_base.specs.Attachment.{unattached};
 
 use crate::bytes::Word;
 use crate::disk::{Disk, Host, NamesFault};
@@ -34,7 +35,7 @@ impl<R, W> Model for DirHost<R, W> {
 
 impl<R: Files<File = File> + AllocGlobal + Clone + Drop, W: Write> DirHost<R, W> {
     pub fn new(rt: R, output: W) -> DirHost<R, W>
-        ensures { result ≡ record { disk = record { made = 0; faults = 0 }; send_faults = 0 } }
+        ensures { result ≡ record { disk = record { made = 0; faults = 0; attachment = unattached }; send_faults = 0 } }
     {
         DirHost {
             disk: DirDisk::new(rt),
@@ -70,6 +71,8 @@ impl<R: Files<File = File> + AllocGlobal + Clone + Drop, W: Write> Disk for DirH
 
     ghost send_faults = { λ host. host.send_faults };
 
+    ghost attachment = { λ host. host.disk.attachment };
+
     ghost tick = { λ host. host.disk.made };
 
     ghost images = { λ _ _. ⊥ };
@@ -88,7 +91,7 @@ impl<R: Files<File = File> + AllocGlobal + Clone + Drop, W: Write> Disk for DirH
         self.disk.tick()
     }
 
-    fn attach(&mut self, place: &Word) -> Result<(), Failed> {
+    fn attach(&mut self, place: Word) -> Result<(), Failed> {
         self.disk.attach(place)
     }
 

@@ -6,19 +6,21 @@ use crate::source::{Failed, Source};
 use std::io::{Read, Stderr, Stdin, Stdout, Write};
 use std::marker::Model;
 
-/// A source over a reader of the outside. Each read is one read of it. Contracts see its count of faults.
+/// A source over a reader of the outside. Each read is one read of it. Contracts see its counts of reads
+/// and faults.
 #[derive(Drop)]
 pub struct ReaderSource<R> {
     reader: R,
+    made: u64,
     faults: Faults,
 }
 
 impl<R> Model for ReaderSource<R> {
-    ghost use Rattle.std.specs.Prelude.{ℕ};
+    ghost use Rattle.weed_base.specs.RealForms.{SourceCounts};
 
-    ghost Value = { ℕ };
+    ghost Value = { SourceCounts };
 
-    ghost view = { λ source. source.faults };
+    ghost view = { λ source. record { made = source.made; faults = source.faults } };
 }
 
 /// Standard input, of which no byte is read ahead.
@@ -26,17 +28,18 @@ pub type StandardInput = ReaderSource<Stdin>;
 
 impl<R: Read> ReaderSource<R> {
     pub fn new(reader: R) -> ReaderSource<R>
-        ensures { result ≡ 0 }
+        ensures { result ≡ record { made = 0; faults = 0 } }
     {
         ReaderSource {
             reader,
+            made: 0,
             faults: Faults::new(),
         }
     }
 
     /// How many reads failed.
     pub fn faults(&self) -> u64
-        ensures { result ≡ self.now }
+        ensures { result ≡ self.now.faults }
     {
         self.faults.count()
     }
@@ -45,9 +48,12 @@ impl<R: Read> ReaderSource<R> {
 impl<R: Read> Source for ReaderSource<R> {
     ghost left = { λ _. None };
 
-    ghost faults = { λ source. source };
+    ghost faults = { λ source. source.faults };
+
+    ghost reads = { λ source. source.made };
 
     fn read(&mut self, room: &mut [u8]) -> Result<usize, Failed> {
+        self.made = self.made.saturating_add(1);
         let answer = self.reader.read(room);
         self.faults.note(answer)
     }

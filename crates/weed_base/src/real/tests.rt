@@ -32,7 +32,7 @@ fn fresh(rt: HostRuntime, place: &str) -> Result<DirHost<HostRuntime, Vec<u8>>, 
 
 fn attached(rt: HostRuntime, place: &str) -> Result<DirHost<HostRuntime, Vec<u8>>, Fail> {
     let mut host = DirHost::new(rt, Vec::new(rt.alloc()));
-    host.attach(&Word::new(rt.alloc(), place.as_bytes())?)?;
+    host.attach(Word::new(rt.alloc(), place.as_bytes())?)?;
     Ok(host)
 }
 
@@ -68,7 +68,7 @@ fn a_directory_that_is_not_attached_fails(rt: HostRuntime) -> Result<(), Fail> {
     let mut host = DirHost::new(rt, Vec::new(rt.alloc()));
     assert_eq!(rt; host.size(&name(b"a")?), Err(Failed));
     let below = Word::new(rt.alloc(), b"weed_base_none/below")?;
-    assert_eq!(rt; host.attach(&below), Err(Failed));
+    assert_eq!(rt; host.attach(below), Err(Failed));
     assert_eq!(rt; host.faults(), 2);
     Ok(())
 }

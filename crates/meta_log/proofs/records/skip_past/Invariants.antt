@@ -13,10 +13,11 @@ invariant-skipping g l =
     × IfSome (g.D.Disk.files l.fn.disk) (λ files. IsOf (content files l.name) l.reading)
     × IfSome (g.D.Disk.files l.fn.disk) (λ files.
     (past : List (List ℕ)) → IsAhead (content files l.name) l.gate l.after l.fn.reading.at past → AreLate l.after past → IsAhead (content files l.name) l.gate l.after l.reading.at past)
-    × (g.D.Disk.faults l.fn.disk ≤ g.D.Disk.faults l.disk)
+    × (g.D.Disk.faults l.disk ≡ g.D.Disk.faults l.fn.disk)
     × (g.D.Disk.sent l.disk ≡ g.D.Disk.sent l.fn.disk)
     × (g.D.Disk.send_faults l.disk ≡ g.D.Disk.send_faults l.fn.disk)
     × OnlyReads g.D.Disk.tick g.D.Disk.images g.D.Disk.image_since l.fn.disk l.disk
+    × (g.D.Disk.attachment l.disk ≡ g.D.Disk.attachment l.fn.disk)
 
 abbrev pub decreases-skipping : goal.decreases-skipping
 decreases-skipping g l = l.reading.size - l.reading.at

@@ -13,10 +13,11 @@ invariant-loop-reading g l =
     × (g.C.Check.count l.check ≤ l.reading.at)
     × (g.D.Disk.files l.disk ≡ g.D.Disk.files l.fn.disk)
     × IfSome (g.D.Disk.files l.fn.disk) (λ files. IsScanned (g.C.Check.passed l.check) (content files l.name) l.reading)
-    × (g.D.Disk.faults l.fn.disk ≤ g.D.Disk.faults l.disk)
+    × (g.D.Disk.faults l.disk ≡ g.D.Disk.faults l.fn.disk)
     × (g.D.Disk.sent l.disk ≡ g.D.Disk.sent l.fn.disk)
     × (g.D.Disk.send_faults l.disk ≡ g.D.Disk.send_faults l.fn.disk)
     × OnlyReads g.D.Disk.tick g.D.Disk.images g.D.Disk.image_since l.fn.disk l.disk
+    × (g.D.Disk.attachment l.disk ≡ g.D.Disk.attachment l.fn.disk)
 
 abbrev pub decreases-loop-reading : goal.decreases-loop-reading
 decreases-loop-reading g l = l.reading.size - l.reading.at
