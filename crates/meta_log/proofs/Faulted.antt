@@ -1,5 +1,5 @@
 -- What is said of damage, weakened.
-use Rattle.std.proofs.Common.{◌≡◌, ℕ, List, Result, Err, subst, sym}
+use Rattle.std.proofs.Common.{◌≡◌, ℕ, List, Result, Ok, Err, subst, sym, ◌∙◌}
 use Rattle.std.specs.Prelude.{IfErr}
 use Rattle.meta_log.specs.Faults.{IfDamaged}
 use Rattle.meta_log.specs.declared.fault.LogFault.{LogFault}
@@ -14,3 +14,7 @@ IfDamaged-weaker P Q Memory weaker said = tt
 pub damaged_on : {T : Type 0} (P Q : List ℕ → ℕ → Type 0) (result : Result T LogFault) (fault other : LogFault) → result ≡ Err fault → fault ≡ other → ((file : List ℕ) (at : ℕ) → P file at → Q file at) → IfDamaged P other → IfErr result (IfDamaged Q)
 damaged_on P Q result fault other is same weaker said =
     subst (λ r. IfErr r (IfDamaged Q)) (sym is) (IfDamaged-weaker P Q fault weaker (subst (IfDamaged P) (sym same) said))
+
+-- what is Ok is no fault
+pub ok_is_no_fault : {T : Type 0} (result : Result T LogFault) (value : T) (fault : LogFault) → result ≡ Ok value → ¬ (result ≡ Err fault)
+ok_is_no_fault result value fault ok err = let both : Ok value ≡ Err fault = sym ok ∙ err in cc

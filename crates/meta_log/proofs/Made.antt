@@ -1,10 +1,10 @@
 -- The steps in which a first segment is made.
-use Rattle.std.proofs.Common.{◌≡◌, ℕ, ◌≤◌, List, [], ◌∷◌, ◌++◌, length, drop, refl, sym, ◌∙◌, ap, subst, arith, Option}
+use Rattle.std.proofs.Common.{◌≡◌, ℕ, ◌≤◌, List, [], ◌∷◌, ◌++◌, length, drop, refl, sym, ◌∙◌, ap, subst, arith, Option, Some, None}
 use Rattle.std.specs.Prelude.{IsSome, IsSomeAnd, unwrap_or, is_some}
 use Rattle.std.specs.FinMap.{insert}
-use Rattle.weed_base.specs.Files.{Files, made, written, IsWithin, MayWrite}
+use Rattle.weed_base.specs.Files.{Files, made, written, IsWithin, MayWrite, BothTold}
 use Rattle.meta_log.specs.LogText.{eight_digits, segment_name, on_name, NoneFrom, ChangesOnly}
-use Rattle.meta_log.specs.Making.{IsPrepared, IsFresh}
+use Rattle.meta_log.specs.Making.{IsPrepared, IsFresh, LeavesOthers}
 use Rattle.meta_log.specs.declared.stem.Stem.{Stem}
 use Rattle.meta_log.proofs.Digits.{number_unique}
 use Rattle.meta_log.proofs.Names.{on_text_unique}
@@ -68,3 +68,12 @@ unchanged file files = λ other differs. refl
 
 pub joined : (file : List ℕ) (a b c : Files) → ChangesOnly file a b → ChangesOnly file b c → ChangesOnly file a c
 joined file a b c first second = λ other differs. second other differs ∙ first other differs
+
+-- the segment's file and then its marker: the others stay
+pub others_both : (stem : Stem) (old mid new : Option Files) → BothTold (ChangesOnly (segment_name stem 1)) old mid → BothTold (ChangesOnly (on_name stem 1)) mid new → BothTold (LeavesOthers stem) old new
+others_both stem None None None first second = tt
+others_both stem None None (Some new) first second = absurd second
+others_both stem None (Some mid) new first second = absurd first
+others_both stem (Some old) None new first second = absurd first
+others_both stem (Some old) (Some mid) None first second = absurd second
+others_both stem (Some old) (Some mid) (Some new) first second = λ name no_segment no_marker. second name no_marker ∙ first name no_segment

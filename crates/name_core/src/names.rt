@@ -49,6 +49,5 @@ pub trait Names {
         ensures root { path.now ≡ [] → IfOk result IsNone }
         ensures valid { IfOk result (λ found. IfSome found IsValid) }
         ensures map { map self.new ≡ map self.old }
-        ensures cause { IsCauseOf (faults self.old) (faults self.new) (IsErrOf result KeeperFault.Failed) }
-        ensures quiet { ¬ (IsErrOf result KeeperFault.Failed) → faults self.new ≡ faults self.old };
+        ensures cause { IsCauseOf (faults self.old) (faults self.new) (IsErrOf result KeeperFault.Failed) };
 }

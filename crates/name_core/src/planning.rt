@@ -26,7 +26,6 @@ pub fn plan<V: Names>(
     ensures planned { IfSome (V.map view.old) (λ names. Plans (plan_of names command.now now last) result) }
     ensures map { V.map view.new ≡ V.map view.old }
     ensures cause { IsCauseOf (V.faults view.old) (V.faults view.new) (IsErrOf result PlanFault.KeeperFault) }
-    ensures quiet { ¬ (IsErrOf result PlanFault.KeeperFault) → V.faults view.new ≡ V.faults view.old }
 
     // These hold over every view, also one that isn't told.
     ensures time { IfOk result (λ answer. IfSome answer (λ made. made.time ≡ record_time now last)) }
@@ -58,7 +57,6 @@ fn changes_of<V: Names>(
     ensures changes { IfSome (V.map view.old) (λ names. Changes (changes_for names time command.now) result) }
     ensures map { V.map view.new ≡ V.map view.old }
     ensures cause { IsCauseOf (V.faults view.old) (V.faults view.new) (IsErrOf result PlanFault.KeeperFault) }
-    ensures quiet { ¬ (IsErrOf result PlanFault.KeeperFault) → V.faults view.new ≡ V.faults view.old }
     ensures directories { IfOk result (MakesDirectories time) }
     ensures no_end { IsErrOf result (PlanFault.Refused Refusal.ClockAtEnd) → ⊥ }
 {
@@ -77,7 +75,6 @@ fn new_directories<V: Names>(
     ensures changes { IfSome (V.map view.old) (λ names. Changes (directories_at names time (prefixes path.now)) result) }
     ensures map { V.map view.new ≡ V.map view.old }
     ensures cause { IsCauseOf (V.faults view.old) (V.faults view.new) (IsErrOf result PlanFault.KeeperFault) }
-    ensures quiet { ¬ (IsErrOf result PlanFault.KeeperFault) → V.faults view.new ≡ V.faults view.old }
     ensures directories { IfOk result (MakesDirectories time) }
     ensures no_end { IsErrOf result (PlanFault.Refused Refusal.ClockAtEnd) → ⊥ }
 {

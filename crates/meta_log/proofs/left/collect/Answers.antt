@@ -7,7 +7,7 @@ use Rattle.weed_base.proofs.ImageLemmas.{reads_both}
 use Rattle.meta_log.specs.Segment.{items}
 use Rattle.meta_log.specs.Stretch.{IsOf}
 use Rattle.meta_log.proofs.Frames.{length-items-push, length-ready}
-use Rattle.meta_log.proofs.Faulted.{damaged_on}
+use Rattle.meta_log.proofs.Faulted.{damaged_on, ok_is_no_fault}
 use Rattle.meta_log.proofs.Collected.{told_goes_on, told_ends_full, told_ends_empty, told_refutes}
 use Rattle.meta_log.proofs.left.collect.Goals as goal
 use Rattle.meta_log.proofs.left.collect.Goals.{then-taking-test+else-bytes-most, else-taking-test, then-taking-test+then-bytes-most+in_ok-text+in_default}
@@ -47,8 +47,9 @@ taking-preserved g c =
       subst (λ o. IfSome o (λ files. IsOf (content files c.args.name.now) c.take_text.new.reading)) c.taking.invariant.3 c.in_ok-text.ensures.of,
       told_goes_on told (g.D.Disk.files c.taking.disk) c.args.name.now c.args.gate c.args.reading.now.at c.args.most c.args.room c.taking.reading.at c.take_text.new.reading.at c.taking.bytes _ texts c.push.new.self.items text c.in_ok-text.field-0
           c.taking.invariant.3 c.in-Some.is (ap (λ (l : List ℕ). c.taking.bytes + length l) c.as_slice.ensures) pushed (omega (arith, c.taking-test.true, c.len.ensures)) c.if-bytes-most.true c.taking.invariant.5 c.in_ok-text.ensures.takes,
-      omega (arith, c.taking.invariant.6, c.take_text.ensures.cause.later),
+      c.take_text.ensures.cause.quiet (ok_is_no_fault c.take_text.result _ _ c.in_ok-text.was) ∙ c.taking.invariant.6,
       c.take_text.ensures.sent.0 ∙ c.taking.invariant.7,
       c.take_text.ensures.sent.1 ∙ c.taking.invariant.8,
       reads_both g.D.Disk.tick g.D.Disk.images g.D.Disk.image_since c.args.disk.now c.taking.disk c.take_text.new.disk c.taking.invariant.9 c.take_text.ensures.still,
+      c.take_text.ensures.attachment ∙ c.taking.invariant.10,
     )
