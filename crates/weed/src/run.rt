@@ -1,5 +1,6 @@
-ghost use Rattle.std.specs.Prelude.{◌≡◌, ◌≢◌, ◌↔◌, ◌≤◌, List, ℕ, length, Ok, Err, Some, IfOk, IfErr, IfSome, IsErrOf};
+ghost use Rattle.std.specs.Prelude.{◌≡◌, ◌≢◌, ◌↔◌, ◌≤◌, List, ℕ, length, Ok, Err, Some, IfOk, IfErr, IfSome, IsErrOf, MatchResult};
 ghost use Rattle.weed_base.specs.Told.{Rose, IsCauseOf};
+ghost use Rattle.weed_base.specs.Attachment.{Attaches, MayAttach, attached_to};
 ghost use Rattle.weed_base.specs.Sent.{bytes_sent};
 ghost use Rattle.weed_base.specs.Files.{Files, BothTold};
 ghost use Rattle.weed_base.specs.Images.{LeavesOnly, OnlyReads};
@@ -139,7 +140,9 @@ fn begin<H: Host>(alloc: Global, dir: &[u8], host: &mut H) -> Result<Session, Ex
     ensures own { (files : Files) → H.files host.old ≡ Some files → IsOwn (H.images host.old) → IfErr result (IfDamagedExit (λ _ _. ⊥)) }
     ensures cause { IsCauseOf (H.faults host.old) (H.faults host.new) (IsErrOf result Exit.DiskFault) }
     ensures sent { (H.sent host.new ≡ H.sent host.old) × (H.send_faults host.new ≡ H.send_faults host.old) }
-    ensures attachment { H.attachment host.new ≡ H.attachment host.old }
+    ensures attached { MatchResult result
+        (λ _. H.attachment host.new ≡ attached_to dir.now (H.attachment host.old))
+        (λ _. MayAttach dir.now (H.attachment host.old) (H.attachment host.new)) }
 {
     let inbox = Inbox::new(alloc)?;
     let standing = make_standing(alloc)?;
@@ -160,10 +163,10 @@ fn attach<H: Host>(alloc: Global, dir: &[u8], host: &mut H) -> Result<(), Exit>
     ensures still { OnlyReads H.tick H.images H.image_since host.old host.new }
     ensures cause { IsCauseOf (H.faults host.old) (H.faults host.new) (IsErrOf result Exit.DiskFault) }
     ensures sent { (H.sent host.new ≡ H.sent host.old) × (H.send_faults host.new ≡ H.send_faults host.old) }
-    ensures attachment { H.attachment host.new ≡ H.attachment host.old }
+    ensures attached { Attaches dir.now (H.attachment host.old) (H.attachment host.new) result }
 {
     let place = Word::new(alloc, dir)?;
-    host.attach(&place)?;
+    host.attach(place)?;
     Ok(())
 }
 

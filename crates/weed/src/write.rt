@@ -48,6 +48,7 @@ pub fn send_all<H: Host>(host: &mut H, bytes: &[u8]) -> Result<(), WriteFault>
     ensures still { StandsStill (H.tick host.old) (H.tick host.new) (H.image_since host.old) (H.image_since host.new) (H.images host.old) (H.images host.new) }
     ensures files { H.files host.new ≡ H.files host.old }
     ensures faults { H.faults host.new ≡ H.faults host.old }
+    ensures attachment { H.attachment host.new ≡ H.attachment host.old }
 {
     let mut done = 0;
     while done < bytes.len() {

@@ -4,7 +4,7 @@ ghost use Rattle.std.specs.FinMap.{get, keys};
 ghost use Rattle.weed_base.specs.Told.{HasCause, HasWriteCause, IsCauseOf};
 ghost use Rattle.weed_base.specs.Files.{Files, IsWithin, IsThere, written, cut_to, made, removed, renamed, content, MayWrite, BothTold, Changes, ReadsAt, MayBeNamed};
 ghost use Rattle.weed_base.specs.Images.{NoMore, Only, Follows, Tears, Takes, where_there, Elapses, StandsStill};
-ghost use Rattle.weed_base.specs.Attachment.{Attachment, attached_to};
+ghost use Rattle.weed_base.specs.Attachment.{Attachment, Attaches};
 ghost use Rattle.weed_base.specs.Sent.{Piece, Sends};
 ghost use Rattle.weed_base.specs.declared.disk.NamesFault.TheVariants.{Memory};
 
@@ -86,9 +86,7 @@ pub trait Disk {
     /// Turns to the directory at that place, which the real form makes where it isn't there. Memory forms
     /// stay as they are.
     fn attach(&mut self, place: Word) -> Result<(), Failed>
-        ensures attached { MatchResult result
-            (λ _. attachment self.new ≡ attached_to place (attachment self.old))
-            (λ _. attachment self.new ≡ attachment self.old) }
+        ensures attached { Attaches place (attachment self.old) (attachment self.new) result }
         ensures files { files self.new ≡ files self.old }
         ensures images { NoMore (images self.old) (images self.new) }
         ensures time { Elapses (tick self.old) (tick self.new) (image_since self.old) (image_since self.new) (images self.new) }

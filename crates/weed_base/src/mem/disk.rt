@@ -3,7 +3,7 @@ ghost use Rattle.std.specs.Option.{option_map, option_copied};
 ghost use Rattle.std.specs.FinMap.{get, keys};
 ghost use Rattle.std.proofs.lemmas.Bool.{false≢true};
 ghost use Rattle.weed_base.specs.Told.{HasCause, IsCauseOf};
-ghost use Rattle.weed_base.specs.Attachment.{attached_to};
+ghost use Rattle.weed_base.specs.Attachment.{Attaches};
 ghost use Rattle.weed_base.specs.Calls.{called, fails_next};
 ghost use Rattle.weed_base.specs.Files.{IsWithin, IsThere, written, cut_to, made, removed, renamed, content, MayWrite, Changes, ReadsAt};
 ghost use Rattle.weed_base.specs.Images.{NoMore, Only, Follows, Tears, Takes, where_there, Elapses};
@@ -213,9 +213,7 @@ impl Disk for MemDisk {
     }
 
     fn attach(&mut self, place: Word) -> Result<(), Failed>
-        ensures attached { MatchResult result
-            (λ _. self.new.attachment ≡ attached_to place self.old.attachment)
-            (λ _. self.new.attachment ≡ self.old.attachment) }
+        ensures attached { Attaches place self.old.attachment self.new.attachment result }
         ensures calls { self.new.calls ≡ called self.old.calls }
         ensures only { IsErr result ↔ IsTrue (fails_next self.old.calls) }
         ensures past { (self.new.start ≡ self.old.start) × (self.new.past ≡ self.old.past) × (self.new.untold ≡ self.old.untold) }

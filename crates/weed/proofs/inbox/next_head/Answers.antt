@@ -55,5 +55,5 @@ loop-count-preserved g c =
       within = omega (arith, c.saturating_sub-searched.ensures, count, grown);
       none = λ place below. none_more pending after adds.0 none adds.2 place (omega (arith, c.saturating_sub-searched.ensures, count));
       left = left_of_adds pending after (g.S.Source.left c.loop-count.from) (g.S.Source.left c.fill.new.from) c.in_ok-fill.field-0 adds ∙ c.loop-count.invariant.left;
-      later = omega (arith, c.in_ok-fill.ensures.cause.later);
+      faults = c.in_ok-fill.ensures.cause ∙ c.loop-count.invariant.faults;
     }

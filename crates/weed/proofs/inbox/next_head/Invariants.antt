@@ -10,7 +10,7 @@ invariant-loop-count g l =
       within : l.searched ≤ length l.inbox.pending;
       none : HasNoEndBelow l.inbox.pending l.searched;
       left : left_of l.inbox.pending (source.left l.from) ≡ left_of l.fn.inbox.pending (source.left l.fn.from);
-      later : source.faults l.fn.from ≤ source.faults l.from;
+      faults : source.faults l.from ≡ source.faults l.fn.from;
     }
 
 abbrev pub decreases-loop-count : goal.decreases-loop-count

@@ -11,9 +11,10 @@ loop-rest-init g c = record {
   taken = none_taken (g.D.Disk.files c.args.disk.now) c.args.log.now c.new-names.result c.start.result c.front.result.count c.requires
       c.new-names.ensures c.start.ensures (ap (λ (f : Front). f.count) c.front.ensures.front);
   still = reads_nothing g.D.Disk.tick g.D.Disk.images g.D.Disk.image_since c.args.disk.now;
-  faults = omega arith;
+  faults = refl;
   sent = refl;
   send_faults = refl;
+  attachment = refl;
 }
 
 pub returns-clause-names : goal.returns-clause-names

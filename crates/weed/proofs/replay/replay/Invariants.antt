@@ -1,4 +1,4 @@
-use Rattle.std.proofs.Common.{◌≡◌, ◌≤◌}
+use Rattle.std.proofs.Common.{◌≡◌}
 use Rattle.weed_base.specs.Images.{OnlyReads}
 use Rattle.weed.specs.Replay.{HoldsTaken}
 use Rattle.weed.proofs.replay.replay.Given as goal
@@ -10,9 +10,10 @@ invariant-loop-rest g l =
       files : disk.files l.disk ≡ disk.files l.fn.disk;
       taken : HoldsTaken (disk.files l.fn.disk) l.log l.names l.rest.place l.rest.count;
       still : OnlyReads disk.tick disk.images disk.image_since l.fn.disk l.disk;
-      faults : disk.faults l.fn.disk ≤ disk.faults l.disk;
+      faults : disk.faults l.disk ≡ disk.faults l.fn.disk;
       sent : disk.sent l.disk ≡ disk.sent l.fn.disk;
       send_faults : disk.send_faults l.disk ≡ disk.send_faults l.fn.disk;
+      attachment : disk.attachment l.disk ≡ disk.attachment l.fn.disk;
     }
 
 abbrev pub decreases-loop-rest : goal.decreases-loop-rest

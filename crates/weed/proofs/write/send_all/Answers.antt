@@ -16,7 +16,8 @@ loop-done-init g c =
       bytes = bytes_same (bytes_sent (disk.sent host));
       pieces = sends_nothing (disk.tick host) (disk.sent host);
       still = still_nothing (disk.tick host) (disk.image_since host) (disk.images host);
-      later = omega arith;
+      send_faults = refl;
+      attachment = refl;
       files = refl;
       faults = refl;
     }
@@ -34,7 +35,8 @@ loop-done-preserved g c =
       pieces = sends_more (disk.tick c.loop-done.host) (disk.tick c.send.new.self) (disk.sent c.args.host.now) (disk.sent c.loop-done.host) (disk.sent c.send.new.self) _ invariant.pieces taken.still.tick taken.pieces.1;
       still = still_both (disk.tick c.args.host.now) (disk.tick c.loop-done.host) (disk.tick c.send.new.self) (disk.image_since c.args.host.now) (disk.image_since c.loop-done.host) (disk.image_since c.send.new.self)
           (disk.images c.args.host.now) (disk.images c.loop-done.host) (disk.images c.send.new.self) invariant.still taken.still;
-      later = omega (arith, taken.cause.later);
+      send_faults = taken.cause.taken (omega arith) ∙ invariant.send_faults;
+      attachment = taken.attachment ∙ invariant.attachment;
       files = taken.disk.0 ∙ invariant.files;
       faults = taken.disk.1 ∙ invariant.faults;
     }

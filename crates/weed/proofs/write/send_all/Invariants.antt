@@ -14,7 +14,8 @@ invariant-loop-done g l =
       bytes : Appends (bytes_sent (disk.sent l.fn.host)) (bytes_sent (disk.sent l.host)) (take l.done l.bytes);
       pieces : SendsAt (disk.tick l.host) (disk.sent l.fn.host) (disk.sent l.host);
       still : StandsStill (disk.tick l.fn.host) (disk.tick l.host) (disk.image_since l.fn.host) (disk.image_since l.host) (disk.images l.fn.host) (disk.images l.host);
-      later : disk.send_faults l.fn.host ≤ disk.send_faults l.host;
+      send_faults : disk.send_faults l.host ≡ disk.send_faults l.fn.host;
+      attachment : disk.attachment l.host ≡ disk.attachment l.fn.host;
       files : disk.files l.host ≡ disk.files l.fn.host;
       faults : disk.faults l.host ≡ disk.faults l.fn.host;
     }

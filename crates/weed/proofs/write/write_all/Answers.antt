@@ -1,4 +1,4 @@
-use Rattle.std.proofs.Common.{arith}
+use Rattle.std.proofs.Common.{◌∙◌, arith}
 use Rattle.std.proofs.lemmas.List.{take_rest}
 use Rattle.weed.proofs.WrittenLemmas.{appends_more}
 use Rattle.weed.proofs.write.write_all.Goals as goal
@@ -10,5 +10,5 @@ loop-done-preserved g c =
     record {
       within = omega (arith, taken.bytes.0);
       bytes = appends_more (written c.args.to.now) (written c.loop-done.to) (written c.write.new.self) c.args.bytes.now c.loop-done.done c.in-Ok.count c.loop-done.invariant.bytes (simp take_rest at taken.bytes.1);
-      later = omega (arith, taken.cause.later);
+      faults = taken.cause.taken (omega arith) ∙ c.loop-done.invariant.faults;
     }

@@ -1,4 +1,4 @@
-use Rattle.std.proofs.Common.{length, ◌-◌, ◌≤◌, take}
+use Rattle.std.proofs.Common.{length, ◌-◌, ◌≡◌, ◌≤◌, take}
 use Rattle.weed_base.specs.Told.{Appends}
 use Rattle.weed.proofs.write.write_all.Given as goal
 
@@ -8,7 +8,7 @@ invariant-loop-done g l =
     record {
       within : l.done ≤ length l.bytes;
       bytes : Appends (sink.written l.fn.to) (sink.written l.to) (take l.done l.bytes);
-      later : sink.faults l.fn.to ≤ sink.faults l.to;
+      faults : sink.faults l.to ≡ sink.faults l.fn.to;
     }
 
 abbrev pub decreases-loop-done : goal.decreases-loop-done

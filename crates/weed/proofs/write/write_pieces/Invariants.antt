@@ -1,4 +1,4 @@
-use Rattle.std.proofs.Common.{◌≤◌, take}
+use Rattle.std.proofs.Common.{◌≡◌, take}
 use Rattle.std.specs.List.{flat_map}
 use Rattle.weed_base.specs.Told.{Appends}
 use Rattle.weed.proofs.write.write_pieces.Given as goal
@@ -8,5 +8,5 @@ invariant-loop-piece g l =
     let sink = g.K.Sink in
     record {
       bytes : Appends (sink.written l.fn.to) (sink.written l.to) (flat_map (λ piece. piece.now) (take l.piece-index l.pieces));
-      later : sink.faults l.fn.to ≤ sink.faults l.to;
+      faults : sink.faults l.to ≡ sink.faults l.fn.to;
     }
