@@ -6,3 +6,4 @@ pub mod ImageLemmas
 pub mod HistoryLemmas
 pub mod ReplayLemmas
 pub mod DiskCallLemmas
+pub mod StreamLemmas

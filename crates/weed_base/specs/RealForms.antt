@@ -12,8 +12,3 @@ pub record DiskCounts : Type 0 where
 pub record HostCounts : Type 0 where
   pub disk : DiskCounts
   pub send_faults : ℕ
-
--- How many reads of a source were made, and how many failed.
-pub record SourceCounts : Type 0 where
-  pub made : ℕ
-  pub faults : ℕ

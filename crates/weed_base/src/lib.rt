@@ -29,8 +29,8 @@ pub use mem::{MemClock, MemDisk, MemHost, MemSink, MemSource, NamedBytes, Pick, 
 pub use path::Path;
 pub use path_fault::PathFault;
 pub use real::{
-    DirDisk, DirHost, ReaderSource, StandardError, StandardInput, StandardOutput, SystemClock,
-    WriterSink,
+    DirDisk, DirHost, ReaderSource, StandardError, StandardInput, StandardOutput, SteadyRead,
+    SteadyWrite, SystemClock, WriterSink,
 };
 pub use sink::Sink;
 pub use source::{Failed, Source};

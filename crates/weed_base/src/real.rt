@@ -8,7 +8,9 @@ mod streams;
 pub use clock::SystemClock;
 pub use dir_disk::DirDisk;
 pub use dir_host::DirHost;
-pub use streams::{ReaderSource, StandardError, StandardInput, StandardOutput, WriterSink};
+pub use streams::{
+    ReaderSource, StandardError, StandardInput, StandardOutput, SteadyRead, SteadyWrite, WriterSink,
+};
 
 #[cfg(test)]
 mod tests;

@@ -8,7 +8,7 @@ use crate::disk::{Disk, Host, NamesFault};
 use crate::file_name::FileName;
 use crate::items::Items;
 use crate::real::dir_disk::DirDisk;
-use crate::real::streams::WriterSink;
+use crate::real::streams::{SteadyWrite, WriterSink};
 use crate::sink::Sink;
 use crate::source::Failed;
 use std::alloc::{AllocGlobal, Global};
@@ -30,7 +30,7 @@ impl<R, W> Model for DirHost<R, W> {
 
     ghost Value = { HostCounts };
 
-    ghost view = { λ host. record { disk = host.disk; send_faults = host.output } };
+    ghost view = { λ host. record { disk = host.disk; send_faults = host.output.faults } };
 }
 
 impl<R: Files<File = File> + AllocGlobal + Clone + Drop, W: Write> DirHost<R, W> {
@@ -132,7 +132,7 @@ impl<R: Files<File = File> + AllocGlobal + Clone + Drop, W: Write> Disk for DirH
     }
 }
 
-impl<R: Files<File = File> + AllocGlobal + Clone + Drop, W: Write> Host for DirHost<R, W> {
+impl<R: Files<File = File> + AllocGlobal + Clone + Drop, W: SteadyWrite> Host for DirHost<R, W> {
     fn send(&mut self, piece: &[u8]) -> Result<usize, Failed> {
         self.output.write(piece)
     }

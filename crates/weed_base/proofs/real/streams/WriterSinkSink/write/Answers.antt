@@ -1,0 +1,8 @@
+use Rattle.weed_base.specs.declared.source.Failed.{Failed}
+use Rattle.weed_base.proofs.StreamLemmas.{write_handed_on}
+use Rattle.weed_base.proofs.real.streams.WriterSinkSink.write.Goals as goal
+
+pub returns-clause-bytes : goal.returns-clause-bytes
+returns-clause-bytes g c =
+    let told = c.write-answer.ensures in
+    write_handed_on {F = Failed} (record {}) _ _ c.write-answer.result _ _ (g.met.W.SteadyWrite.steady c.write-answer.new.self c.args.self.now.writer) told.bound told.bytes c.note_write.ensures.value
