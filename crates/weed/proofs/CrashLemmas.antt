@@ -24,7 +24,7 @@ use Rattle.meta_log.specs.Images.{ImagesKeep, AllNear, AreNear}
 use Rattle.meta_log.proofs.RecordCrashes.{keeps_each}
 use Rattle.weed.specs.Handed.{IsSentAt, SendsAt}
 use Rattle.weed.specs.Settling.{IsOneOf, Settling, Tearing}
-use Rattle.weed.specs.Session.{State, Answers, Turn, Turns, Steps, Rests, EndsAfter, LeadsTo, Stands, last_of, most_turns}
+use Rattle.weed.specs.Session.{State, Answers, Turn, Turns, Steps, Rests, SendsUnlessCut, EndsAfter, LeadsTo, Stands, disk_answer, last_of, most_turns}
 use Rattle.weed.specs.Tells.{Leads, Ends}
 use Rattle.weed.specs.Crash.{IsPassed, IsOfRun, BeginsWith, KeepsFrom, Withstands}
 use Rattle.weed.specs.declared.exit.Exit.{Exit}
@@ -282,33 +282,41 @@ module _ {D : Type 0} (tick : D → ℕ) (images : D → Files → Type 0) (sinc
 rests_add : (old last : State) → Rests old last → (added : List Record) × (last.log ≡ old.log ++ added)
 rests_add old last rests = ([], rests.log ∙ sym (append-nil old.log))
 
-done_adds : (old last : State) → EndsAfter exit.Done old last → (added : List Record) × (last.log ≡ old.log ++ added)
-done_adds old last (inl ended) = rests_add old last ended.1
-done_adds old last (inr closed) = answers_add old last.left closed.0 _ last.log last.moments closed.1
+done_adds : (Cut : Type 0) (old last : State) → EndsAfter Cut exit.Done old last → (added : List Record) × (last.log ≡ old.log ++ added)
+done_adds Cut old last (inl ended) = rests_add old last ended.1
+done_adds Cut old last (inr closed) = answers_add old last.left closed.0 _ last.log last.moments closed.1
+
+-- A send that failed in the last turn failed in the run.
+sends_weaker : (Here Cut : Type 0) → (Here → Cut) → (before answer sent : List ℕ) → SendsUnlessCut Here before answer sent → SendsUnlessCut Cut before answer sent
+sends_weaker Here Cut cut before answer sent (inl whole) = inl whole
+sends_weaker Here Cut cut before answer sent (inr front) = inr (cut front.0, front.1, front.2)
+
+faulted_weaker : (Here Cut : Type 0) → (Here → Cut) → (old last : State) → EndsAfter Here exit.DiskFault old last → EndsAfter Cut exit.DiskFault old last
+faulted_weaker Here Cut cut old last ends = (ends.0, ends.1, ends.2, ends.3, sends_weaker Here Cut cut old.sent disk_answer last.sent ends.4, ends.5, ends.6)
 
 -- How a turn ends is how the session ends.
-pub ends_after : {D : Type 0} (tick : D → ℕ) (images : D → Files → Type 0) (since : D → ℕ → Files → Type 0) (sent : D → Option (List Piece))
+pub ends_after : {D : Type 0} (Here Cut : Type 0) → (Here → Cut) → (tick : D → ℕ) (images : D → Files → Type 0) (since : D → ℕ → Files → Type 0) (sent : D → Option (List Piece))
     → ((disk : D) (image : Files) → since disk (tick disk) image → images disk image)
     → ((disk : D) (moment : ℕ) (image : Files) → moment ≤ tick disk → images disk image → since disk moment image)
     → (start mid now : D) (end : Exit) (first : State) (path : List State) (left bytes : Option (List ℕ)) (files : Option Files) (moments : Option (List ℕ)) (session : Session)
     → Turns first path → length path < most_turns
     → (ImagesKeep (images start) first.log → Keeping tick images since sent start mid first path)
     → bytes_sent (sent mid) ≡ Some (last_of first path).sent → SendsAt (tick now) (sent mid) (sent now)
-    → Leads (last_of first path) (Settling tick images since mid now (last_of first path).log) (Tearing tick images since mid now (last_of first path).log) left bytes files moments session (Ended end)
-    → (path : List State) × (last : State) × Stands left bytes files moments last × Ends end first path last
+    → Leads Here (last_of first path) (Settling tick images since mid now (last_of first path).log) (Tearing tick images since mid now (last_of first path).log) left bytes files moments session (Ended end)
+    → (path : List State) × (last : State) × Stands left bytes files moments last × Ends Cut end first path last
     × (ImagesKeep (images start) first.log → Withstands tick images since sent start now end first path last)
-ends_after tick images since sent only_now counts_now start mid now exit.Done first path left bytes files moments session turns few keeping told sends leads =
-    let added = done_adds (last_of first path) leads.0 leads.2 in
+ends_after Here Cut cut tick images since sent only_now counts_now start mid now exit.Done first path left bytes files moments session turns few keeping told sends leads =
+    let added = done_adds Here (last_of first path) leads.0 leads.2 in
     (path, leads.0, leads.1, (turns, few, leads.2), λ keep. settled_ends tick images since sent only_now start mid now first path (keeping keep) exit.Done leads.0 added.0 added.1 refl leads.3 sends told)
-ends_after tick images since sent only_now counts_now start mid now exit.ReadFault first path left bytes files moments session turns few keeping told sends leads =
+ends_after Here Cut cut tick images since sent only_now counts_now start mid now exit.ReadFault first path left bytes files moments session turns few keeping told sends leads =
     let added = rests_add (last_of first path) leads.0 leads.2 in
     (path, leads.0, leads.1, (turns, few, leads.2), λ keep. settled_ends tick images since sent only_now start mid now first path (keeping keep) exit.ReadFault leads.0 added.0 added.1 refl leads.3 sends told)
-ends_after tick images since sent only_now counts_now start mid now exit.WriteFault first path left bytes files moments session turns few keeping told sends leads =
+ends_after Here Cut cut tick images since sent only_now counts_now start mid now exit.WriteFault first path left bytes files moments session turns few keeping told sends leads =
     let added = answers_add (last_of first path) leads.0.left leads.2.0 leads.2.1 leads.0.log leads.0.moments leads.2.3 in
     (path, leads.0, leads.1, (turns, few, leads.2), λ keep. settled_ends tick images since sent only_now start mid now first path (keeping keep) exit.WriteFault leads.0 added.0 added.1 refl leads.3 sends told)
-ends_after tick images since sent only_now counts_now start mid now exit.DiskFault first path left bytes files moments session turns few keeping told sends leads =
-    (path, leads.0, leads.1, (turns, few, leads.2), λ keep. torn_ends tick images since sent only_now start mid now first path (keeping keep) counts_now leads.0 leads.3.0 leads.3.1 leads.3.2 sends)
-ends_after tick images since sent only_now counts_now start mid now (exit.BadWords place) first path left bytes files moments session turns few keeping told sends leads = absurd leads.2
-ends_after tick images since sent only_now counts_now start mid now (exit.Damaged file at) first path left bytes files moments session turns few keeping told sends leads = absurd leads.2
-ends_after tick images since sent only_now counts_now start mid now exit.Memory first path left bytes files moments session turns few keeping told sends leads = absurd leads.2
-ends_after tick images since sent only_now counts_now start mid now exit.TurnsSpent first path left bytes files moments session turns few keeping told sends leads = absurd leads.2
+ends_after Here Cut cut tick images since sent only_now counts_now start mid now exit.DiskFault first path left bytes files moments session turns few keeping told sends leads =
+    (path, leads.0, leads.1, (turns, few, faulted_weaker Here Cut cut (last_of first path) leads.0 leads.2), λ keep. torn_ends tick images since sent only_now start mid now first path (keeping keep) counts_now leads.0 leads.3.0 leads.3.1 leads.3.2 sends)
+ends_after Here Cut cut tick images since sent only_now counts_now start mid now (exit.BadWords place) first path left bytes files moments session turns few keeping told sends leads = absurd leads.2
+ends_after Here Cut cut tick images since sent only_now counts_now start mid now (exit.Damaged file at) first path left bytes files moments session turns few keeping told sends leads = absurd leads.2
+ends_after Here Cut cut tick images since sent only_now counts_now start mid now exit.Memory first path left bytes files moments session turns few keeping told sends leads = absurd leads.2
+ends_after Here Cut cut tick images since sent only_now counts_now start mid now exit.TurnsSpent first path left bytes files moments session turns few keeping told sends leads = absurd leads.2

@@ -82,20 +82,20 @@ undamaged None log file at there damage = there
 undamaged (Some files) log file at there damage = no_record_damage files file at log damage there
 
 -- An end has its cause: without one, the run is done or short of memory.
-pub completes : (files : Option Files) (Same : Type 0) (Disk Read Write : Type 0) (end : Exit) (first : State)
+pub completes : (Cut : Type 0) (files : Option Files) (Same : Type 0) (Disk Read Write : Type 0) (end : Exit) (first : State)
     → IsSomeAnd files (λ told. IsRecordLog told first.log)
-    → (path : List State) (last : State) → Ends end first path last ⊎ IsEarly end
+    → (path : List State) (last : State) → Ends Cut end first path last ⊎ IsEarly end
     → ((place : ℕ) → end ≡ exit.BadWords place → ⊥)
     → IfDamagedExit (λ file at. IfSome files (λ told. IsRecordDamage told file at) × Same) end
     → (end ≡ exit.DiskFault → Disk) → (end ≡ exit.ReadFault → Read) → (end ≡ exit.WriteFault → Write)
     → ¬ Disk → ¬ Read → ¬ Write → ((path : List State) → Turns first path → length path ≢ most_turns)
     → IsDoneOrShort end
-completes files Same Disk Read Write exit.Done first there path last ends good damaged disk read write no_disk no_read no_write few = tt
-completes files Same Disk Read Write exit.Memory first there path last ends good damaged disk read write no_disk no_read no_write few = tt
-completes files Same Disk Read Write exit.DiskFault first there path last ends good damaged disk read write no_disk no_read no_write few = no_disk (disk refl)
-completes files Same Disk Read Write exit.ReadFault first there path last ends good damaged disk read write no_disk no_read no_write few = no_read (read refl)
-completes files Same Disk Read Write exit.WriteFault first there path last ends good damaged disk read write no_disk no_read no_write few = no_write (write refl)
-completes files Same Disk Read Write exit.TurnsSpent first there path last (inl ends) good damaged disk read write no_disk no_read no_write few = few path ends.0 ends.1
-completes files Same Disk Read Write exit.TurnsSpent first there path last (inr early) good damaged disk read write no_disk no_read no_write few = early
-completes files Same Disk Read Write (exit.BadWords place) first there path last ends good damaged disk read write no_disk no_read no_write few = good place refl
-completes files Same Disk Read Write (exit.Damaged file at) first there path last ends good damaged disk read write no_disk no_read no_write few = undamaged files first.log file at there damaged.0
+completes Cut files Same Disk Read Write exit.Done first there path last ends good damaged disk read write no_disk no_read no_write few = tt
+completes Cut files Same Disk Read Write exit.Memory first there path last ends good damaged disk read write no_disk no_read no_write few = tt
+completes Cut files Same Disk Read Write exit.DiskFault first there path last ends good damaged disk read write no_disk no_read no_write few = no_disk (disk refl)
+completes Cut files Same Disk Read Write exit.ReadFault first there path last ends good damaged disk read write no_disk no_read no_write few = no_read (read refl)
+completes Cut files Same Disk Read Write exit.WriteFault first there path last ends good damaged disk read write no_disk no_read no_write few = no_write (write refl)
+completes Cut files Same Disk Read Write exit.TurnsSpent first there path last (inl ends) good damaged disk read write no_disk no_read no_write few = few path ends.0 ends.1
+completes Cut files Same Disk Read Write exit.TurnsSpent first there path last (inr early) good damaged disk read write no_disk no_read no_write few = early
+completes Cut files Same Disk Read Write (exit.BadWords place) first there path last ends good damaged disk read write no_disk no_read no_write few = good place refl
+completes Cut files Same Disk Read Write (exit.Damaged file at) first there path last ends good damaged disk read write no_disk no_read no_write few = undamaged files first.log file at there damaged.0

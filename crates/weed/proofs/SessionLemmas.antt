@@ -1,6 +1,6 @@
 -- What a turn of a session leads to.
-use Rattle.std.proofs.Common.{◌≡◌, ◌⊎◌, ℕ, Bool, true, false, List, [], ◌++◌, take, length, Option, Some, None, Result, Ok, Err, refl, sym, ap, ◌∙◌, subst, inl, inr}
-use Rattle.std.specs.Prelude.{IfSome, IsSomeAnd}
+use Rattle.std.proofs.Common.{◌≡◌, ◌⊎◌, ℕ, Bool, true, false, List, [], ◌++◌, take, Option, Some, None, Result, Ok, Err, refl, sym, ap, ◌∙◌, subst, inl, inr}
+use Rattle.std.specs.Prelude.{IfSome, IsSomeAnd, OnErr}
 use Rattle.std.specs.Option.{option_map}
 use Rattle.weed_base.specs.Told.{Consumes, IsAtEnd, Appends}
 use Rattle.weed_base.specs.Files.{Files}
@@ -14,11 +14,10 @@ use Rattle.weed.specs.Inbox.{left_of, IsNoRequest, Finds}
 use Rattle.weed.specs.Written.{WritesAll}
 use Rattle.weed.specs.declared.inbox.Head.{Head}
 use Rattle.weed.specs.declared.inbox.Head.TheVariants.{End, Request, NotYet}
-use Rattle.std.proofs.Math.Seq.{take-length}
 use Rattle.weed.specs.Filer.{IsFiled, TellsFiler, TellsEither}
 use Rattle.weed.specs.Reply.{moments_after}
 use Rattle.weed.specs.Replied.{Gives}
-use Rattle.weed.specs.Session.{State, Requests, Answers, Rests, Stands, HasLeft, memory_answer, disk_answer, not_yet_answer}
+use Rattle.weed.specs.Session.{State, Requests, Answers, SendsUnlessCut, Rests, Stands, HasLeft, memory_answer, disk_answer, not_yet_answer}
 use Rattle.weed.specs.Tells.{Tells, Asking, Sends, Leads}
 use Rattle.weed.specs.declared.exit.Exit.TheVariants as exit
 use Rattle.weed.specs.declared.plain_filer.PlainFiler.{PlainFiler}
@@ -54,37 +53,37 @@ appended_told : (old new : Option (List ℕ)) (bytes more : List ℕ) → old �
 appended_told old new bytes more told grew = grew ∙ ap (option_map (λ written. written ++ more)) told
 
 -- The answer of a state was sent, and the session goes on or ends so.
-pub sent_leads : (old : State) (rest answer : List ℕ) (closes : Bool) (log : List Record) (moments : List ℕ) (Moves Tears : List Record → Type 0)
+pub sent_leads : (Cut : Type 0) (old : State) (rest answer : List ℕ) (closes : Bool) (log : List Record) (moments : List ℕ) (Moves Tears : List Record → Type 0)
     (left sent sent' : Option (List ℕ)) (files : Option Files) (clock : Option (List ℕ)) (session : Session) (turned : Turned)
     → Answers old rest answer closes log moments
     → sent ≡ Some old.sent → Sends answer closes sent sent' turned
     → left_of session.inbox.pending left ≡ Some rest → TellsFiler files session.filer log → clock ≡ Some moments → Moves log
-    → Leads old Moves Tears left sent' files clock session turned
-sent_leads old rest answer closes log moments Moves Tears left sent sent' files clock session Open answers told sends left_is filer clock_is moves =
+    → Leads Cut old Moves Tears left sent' files clock session turned
+sent_leads Cut old rest answer closes log moments Moves Tears left sent sent' files clock session Open answers told sends left_is filer clock_is moves =
     let new : State = record { left = rest; sent = old.sent ++ answer; log = log; moments = moments } in (
       new,
       record { left_is = left_is; sent_is = appended_told sent sent' old.sent answer told sends.0; filer = filer; moments_are = clock_is },
       (answer, subst (λ b. Answers old rest answer b log moments) sends.1 answers, refl),
       moves,
     )
-sent_leads old rest answer closes log moments Moves Tears left sent sent' files clock session (Ended exit.Done) answers told sends left_is filer clock_is moves = (
+sent_leads Cut old rest answer closes log moments Moves Tears left sent sent' files clock session (Ended exit.Done) answers told sends left_is filer clock_is moves = (
   record { left = rest; sent = old.sent ++ answer; log = log; moments = moments },
   record { left_is = (session.inbox.pending, left_is); sent_is = appended_told sent sent' old.sent answer told sends.0; log_is = filer_is_log files session.filer log filer; moments_are = clock_is },
   inr (answer, subst (λ b. Answers old rest answer b log moments) sends.1 answers, refl),
   moves,
 )
-sent_leads old rest answer closes log moments Moves Tears left sent sent' files clock session (Ended exit.WriteFault) answers told sends left_is filer clock_is moves = (
+sent_leads Cut old rest answer closes log moments Moves Tears left sent sent' files clock session (Ended exit.WriteFault) answers told sends left_is filer clock_is moves = (
   record { left = rest; sent = old.sent ++ take sends.0 answer; log = log; moments = moments },
   record { left_is = (session.inbox.pending, left_is); sent_is = appended_told sent sent' old.sent (take sends.0 answer) told sends.1; log_is = filer_is_log files session.filer log filer; moments_are = clock_is },
   (answer, closes, sends.0, answers, refl),
   moves,
 )
-sent_leads old rest answer closes log moments Moves Tears left sent sent' files clock session (Ended exit.ReadFault) answers told sends left_is filer clock_is moves = absurd sends
-sent_leads old rest answer closes log moments Moves Tears left sent sent' files clock session (Ended exit.DiskFault) answers told sends left_is filer clock_is moves = absurd sends
-sent_leads old rest answer closes log moments Moves Tears left sent sent' files clock session (Ended (exit.BadWords place)) answers told sends left_is filer clock_is moves = absurd sends
-sent_leads old rest answer closes log moments Moves Tears left sent sent' files clock session (Ended (exit.Damaged file at)) answers told sends left_is filer clock_is moves = absurd sends
-sent_leads old rest answer closes log moments Moves Tears left sent sent' files clock session (Ended exit.Memory) answers told sends left_is filer clock_is moves = absurd sends
-sent_leads old rest answer closes log moments Moves Tears left sent sent' files clock session (Ended exit.TurnsSpent) answers told sends left_is filer clock_is moves = absurd sends
+sent_leads Cut old rest answer closes log moments Moves Tears left sent sent' files clock session (Ended exit.ReadFault) answers told sends left_is filer clock_is moves = absurd sends
+sent_leads Cut old rest answer closes log moments Moves Tears left sent sent' files clock session (Ended exit.DiskFault) answers told sends left_is filer clock_is moves = absurd sends
+sent_leads Cut old rest answer closes log moments Moves Tears left sent sent' files clock session (Ended (exit.BadWords place)) answers told sends left_is filer clock_is moves = absurd sends
+sent_leads Cut old rest answer closes log moments Moves Tears left sent sent' files clock session (Ended (exit.Damaged file at)) answers told sends left_is filer clock_is moves = absurd sends
+sent_leads Cut old rest answer closes log moments Moves Tears left sent sent' files clock session (Ended exit.Memory) answers told sends left_is filer clock_is moves = absurd sends
+sent_leads Cut old rest answer closes log moments Moves Tears left sent sent' files clock session (Ended exit.TurnsSpent) answers told sends left_is filer clock_is moves = absurd sends
 
 tells_some : (told : Option Files) (filer : PlainFiler) (records : List Record) → TellsFiler told filer records → (files : Files) × (told ≡ Some files) × IsFiled files filer records
 tells_some None filer records tells = absurd tells
@@ -104,7 +103,7 @@ gave Moves Tears old target files files' clock clock' filer filer' result gives 
     gives told.0 old.moments old.log told.1 clock_is told.2
 
 -- A request was answered by its reply.
-pub replied_leads : (Moves Tears Sent Torn : List Record → List Record → Type 0) (old : State) (rest target : List ℕ) (left sent sent' sent'' : Option (List ℕ)) (files files' files'' : Option Files) (clock clock' : Option (List ℕ))
+pub replied_leads : (Cut : Type 0) (Moves Tears Sent Torn : List Record → List Record → Type 0) (old : State) (rest target : List ℕ) (left sent sent' sent'' : Option (List ℕ)) (files files' files'' : Option Files) (clock clock' : Option (List ℕ))
     (session session' : Session) (reply : Reply) (answer : List ℕ) (turned : Turned)
     → Requests old.left target rest
     → GivesTold Moves Tears files clock session.filer target files' clock' session'.filer (Ok reply)
@@ -113,11 +112,11 @@ pub replied_leads : (Moves Tears Sent Torn : List Record → List Record → Typ
     → sent ≡ Some old.sent → sent' ≡ sent → files'' ≡ files' → answer ≡ reply.answer
     → Sends answer reply.closes sent' sent'' turned
     → left_of session'.inbox.pending left ≡ Some rest
-    → Leads old (Sent old.log) (Torn old.log) left sent'' files'' clock' session' turned
-replied_leads Moves Tears Sent Torn old rest target left sent sent' sent'' files files' files'' clock clock' session session' reply answer turned asked gives sending tells clock_is sent_is same_sent same_files answer_is sends left_is =
+    → Leads Cut old (Sent old.log) (Torn old.log) left sent'' files'' clock' session' turned
+replied_leads Cut Moves Tears Sent Torn old rest target left sent sent' sent'' files files' files'' clock clock' session session' reply answer turned asked gives sending tells clock_is sent_is same_sent same_files answer_is sends left_is =
     let given = gave Moves Tears old target files files' clock clock' session.filer session'.filer (Ok reply) gives tells clock_is in
     let says = given.0 in
-    sent_leads old rest answer reply.closes (old.log ++ says.added) (moments_after says old.moments) (Sent old.log) (Torn old.log) left sent' sent'' files'' clock' session' turned
+    sent_leads Cut old rest answer reply.closes (old.log ++ says.added) (moments_after says old.moments) (Sent old.log) (Torn old.log) left sent' sent'' files'' clock' session' turned
     (inl (record { target = target; says = says; asked = asked; reply = given.1; answer_is = answer_is ∙ given.2.answer; closes_is = given.2.closes; log_is = refl; moments_are = refl }))
     (same_sent ∙ sent_is) sends left_is (subst (λ o. TellsFiler o session'.filer (old.log ++ says.added)) (sym same_files) given.3) given.4
     (sending old.log (old.log ++ says.added) given.5)
@@ -128,7 +127,7 @@ lacked_moments : (old : State) (clock : Option (List ℕ)) → ((clock ≡ Some 
 lacked_moments old clock (inl same) = (old.moments, same, inl refl)
 lacked_moments old clock (inr later) = (later_moments old.moments, later, inr refl)
 
-pub lacked_leads : (Moves Tears Sent Torn : List Record → List Record → Type 0) (old : State) (rest target : List ℕ) (left sent sent' sent'' : Option (List ℕ)) (files files' files'' : Option Files) (clock clock' : Option (List ℕ))
+pub lacked_leads : (Cut : Type 0) (Moves Tears Sent Torn : List Record → List Record → Type 0) (old : State) (rest target : List ℕ) (left sent sent' sent'' : Option (List ℕ)) (files files' files'' : Option Files) (clock clock' : Option (List ℕ))
     (session session' : Session) (answer : List ℕ) (turned : Turned)
     → Requests old.left target rest
     → GivesTold Moves Tears files clock session.filer target files' clock' session'.filer (Err Memory)
@@ -137,19 +136,21 @@ pub lacked_leads : (Moves Tears Sent Torn : List Record → List Record → Type
     → sent ≡ Some old.sent → sent' ≡ sent → files'' ≡ files' → answer ≡ memory_answer
     → Sends answer false sent' sent'' turned
     → left_of session'.inbox.pending left ≡ Some rest
-    → Leads old (Sent old.log) (Torn old.log) left sent'' files'' clock' session' turned
-lacked_leads Moves Tears Sent Torn old rest target left sent sent' sent'' files files' files'' clock clock' session session' answer turned asked gives sending tells clock_is sent_is same_sent same_files answer_is sends left_is =
+    → Leads Cut old (Sent old.log) (Torn old.log) left sent'' files'' clock' session' turned
+lacked_leads Cut Moves Tears Sent Torn old rest target left sent sent' sent'' files files' files'' clock clock' session session' answer turned asked gives sending tells clock_is sent_is same_sent same_files answer_is sends left_is =
     let given = gave Moves Tears old target files files' clock clock' session.filer session'.filer (Err Memory) gives tells clock_is in
     let at = lacked_moments old clock' given.1 in
-    sent_leads old rest answer false old.log at.0 (Sent old.log) (Torn old.log) left sent' sent'' files'' clock' session' turned
+    sent_leads Cut old rest answer false old.log at.0 (Sent old.log) (Torn old.log) left sent' sent'' files'' clock' session' turned
     (inr (inl (record { target = target; asked = asked; answer_is = answer_is; closes_is = refl; log_is = refl; moments_are = at.2 })))
     (same_sent ∙ sent_is) sends left_is (subst (λ o. TellsFiler o session'.filer old.log) (sym same_files) given.0) at.1
     (sending old.log old.log given.2)
 
 -- A request met a fault of the disk.
-written_front : {T E : Type 0} (old new : Option (List ℕ)) (result : Result T E) (bytes : List ℕ) → WritesAll old new result bytes → (count : ℕ) × Appends old new (take count bytes)
-written_front old new (Ok done) bytes writes = (length bytes, subst (λ piece. Appends old new piece) (sym (take-length bytes)) writes)
-written_front old new (Err fault) bytes writes = writes
+sent_of : {T E : Type 0} (Cut : Type 0) (old new : Option (List ℕ)) (before answer : List ℕ) (result : Result T E) → old ≡ Some before → WritesAll old new result answer → OnErr result Cut
+    → (sent : List ℕ) × (new ≡ Some sent) × SendsUnlessCut Cut before answer sent
+sent_of Cut old new before answer (Ok done) told writes cut = (before ++ answer, appended_told old new before answer told writes, inl refl)
+sent_of Cut old new before answer (Err fault) told writes cut =
+    (before ++ take writes.0 answer, appended_told old new before (take writes.0 answer) told writes.1, inr (cut, writes.0, refl))
 
 either_is_log : (told : Option Files) (records more : List Record) → TellsEither told records more
     → (log : List Record) × IsSomeAnd told (λ files. IsRecordLog files log) × ((log ≡ records) ⊎ (log ≡ records ++ more))
@@ -157,25 +158,24 @@ either_is_log None records more tells = absurd tells
 either_is_log (Some files) records more (inl log) = (records, log, inl refl)
 either_is_log (Some files) records more (inr log) = (records ++ more, log, inr refl)
 
-pub faulted_leads : {T E : Type 0} (Moves Tears Sent Torn : List Record → List Record → Type 0) (old : State) (rest target : List ℕ) (left sent sent' sent'' : Option (List ℕ)) (files files' files'' : Option Files) (clock clock' : Option (List ℕ))
+pub faulted_leads : {T E : Type 0} (Cut : Type 0) (Moves Tears Sent Torn : List Record → List Record → Type 0) (old : State) (rest target : List ℕ) (left sent sent' sent'' : Option (List ℕ)) (files files' files'' : Option Files) (clock clock' : Option (List ℕ))
     (session session' : Session) (answer : List ℕ) (result : Result T E)
     → Requests old.left target rest
     → GivesTold Moves Tears files clock session.filer target files' clock' session'.filer (Err DiskFault)
     → ((before after : List Record) → Tears before after → Torn before after)
     → TellsFiler files session.filer old.log → clock ≡ Some old.moments
     → sent ≡ Some old.sent → sent' ≡ sent → files'' ≡ files' → answer ≡ disk_answer
-    → WritesAll sent' sent'' result answer
+    → WritesAll sent' sent'' result answer → OnErr result Cut
     → left_of session'.inbox.pending left ≡ Some rest
-    → Leads old (Sent old.log) (Torn old.log) left sent'' files'' clock' session' (Ended exit.DiskFault)
-faulted_leads Moves Tears Sent Torn old rest target left sent sent' sent'' files files' files'' clock clock' session session' answer result asked gives tearing tells clock_is sent_is same_sent same_files answer_is writes left_is =
+    → Leads Cut old (Sent old.log) (Torn old.log) left sent'' files'' clock' session' (Ended exit.DiskFault)
+faulted_leads Cut Moves Tears Sent Torn old rest target left sent sent' sent'' files files' files'' clock clock' session session' answer result asked gives tearing tells clock_is sent_is same_sent same_files answer_is writes cut left_is =
     let given = gave Moves Tears old target files files' clock clock' session.filer session'.filer (Err DiskFault) gives tells clock_is in
     let says = given.0 in
-    let front = written_front sent' sent'' result answer writes in
-    let log = either_is_log files' old.log says.added given.2 in
-    let sent_now = appended_told sent' sent'' old.sent (take front.0 answer) (same_sent ∙ sent_is) front.1 in (
-      record { left = rest; sent = old.sent ++ take front.0 answer; log = log.0; moments = moments_after says old.moments },
-      record { left_is = (session'.inbox.pending, left_is); sent_is = sent_now; log_is = subst (λ o. IsSomeAnd o (λ told. IsRecordLog told log.0)) (sym same_files) log.1; moments_are = given.3 },
-      (target, says, front.0, asked, given.1, ap (λ bytes. old.sent ++ take front.0 bytes) answer_is, log.2, refl),
+    let sends = sent_of Cut sent' sent'' old.sent answer result (same_sent ∙ sent_is) writes cut in
+    let log = either_is_log files' old.log says.added given.2 in (
+      record { left = rest; sent = sends.0; log = log.0; moments = moments_after says old.moments },
+      record { left_is = (session'.inbox.pending, left_is); sent_is = sends.1; log_is = subst (λ o. IsSomeAnd o (λ told. IsRecordLog told log.0)) (sym same_files) log.1; moments_are = given.3 },
+      (target, says, asked, given.1, subst (λ bytes. SendsUnlessCut Cut old.sent bytes sends.0) answer_is sends.2, log.2, refl),
       (old.log ++ says.added, (target, says, asked, given.1, refl), tearing old.log (old.log ++ says.added) given.4),
     )
 
@@ -198,15 +198,15 @@ asking_found old left left' sent files clock session session' head tells is find
       },
     )
 
-pub refused_leads : (Moves Tears : List Record → Type 0) (old : State) (left left' sent sent' : Option (List ℕ)) (files files' : Option Files) (clock : Option (List ℕ)) (session session' : Session) (head : Head) (answer : List ℕ) (turned : Turned)
+pub refused_leads : (Cut : Type 0) (Moves Tears : List Record → Type 0) (old : State) (left left' sent sent' : Option (List ℕ)) (files files' : Option Files) (clock : Option (List ℕ)) (session session' : Session) (head : Head) (answer : List ℕ) (turned : Turned)
     → Tells left sent files clock session old → head ≡ NotYet
     → Finds head (left_of session.inbox.pending left) (left_of session'.inbox.pending left') session'.inbox.target
     → session'.filer ≡ session.filer → files' ≡ files → answer ≡ not_yet_answer
     → Sends answer true sent sent' turned → Moves old.log
-    → Leads old Moves Tears left' sent' files' clock session' turned
-refused_leads Moves Tears old left left' sent sent' files files' clock session session' head answer turned tells is finds same same_files answer_is sends moves =
+    → Leads Cut old Moves Tears left' sent' files' clock session' turned
+refused_leads Cut Moves Tears old left left' sent sent' files files' clock session session' head answer turned tells is finds same same_files answer_is sends moves =
     let found = subst (λ (h : Head). Finds h (left_of session.inbox.pending left) (left_of session'.inbox.pending left') session'.inbox.target) is finds in
-    sent_leads old old.left answer true old.log old.moments Moves Tears left' sent sent' files' clock session' turned
+    sent_leads Cut old old.left answer true old.log old.moments Moves Tears left' sent sent' files' clock session' turned
     (inr (inr (record { asked = subst (λ o. IfSome o IsNoRequest) tells.left_is found.0; rest_is = refl; answer_is = answer_is; closes_is = refl; log_is = refl; moments_are = refl })))
     tells.sent_is sends (found.1 ∙ tells.left_is)
     (subst (λ filer. TellsFiler files' filer old.log) (sym same) (subst (λ o. TellsFiler o session.filer old.log) (sym same_files) tells.filer)) tells.moments_are moves
@@ -224,16 +224,16 @@ at_end : (old : List ℕ) (told : Option (List ℕ)) → told ≡ Some old → I
 at_end old told is end =
     let none : Some old ≡ Some [] = sym is ∙ end ∙ ap (option_map (λ _. [])) is in some_same old [] none
 
-pub ended_leads : (Moves Tears : List Record → Type 0) (old : State) (left left' sent : Option (List ℕ)) (files : Option Files) (clock : Option (List ℕ)) (session session' : Session) (head : Head)
+pub ended_leads : (Cut : Type 0) (Moves Tears : List Record → Type 0) (old : State) (left left' sent : Option (List ℕ)) (files : Option Files) (clock : Option (List ℕ)) (session session' : Session) (head : Head)
     → Tells left sent files clock session old → head ≡ End
     → Finds head (left_of session.inbox.pending left) (left_of session'.inbox.pending left') session'.inbox.target → Moves old.log
-    → Leads old Moves Tears left' sent files clock session' (Ended exit.Done)
-ended_leads Moves Tears old left left' sent files clock session session' head tells is finds moves =
+    → Leads Cut old Moves Tears left' sent files clock session' (Ended exit.Done)
+ended_leads Cut Moves Tears old left left' sent files clock session session' head tells is finds moves =
     let found = subst (λ (h : Head). Finds h (left_of session.inbox.pending left) (left_of session'.inbox.pending left') session'.inbox.target) is finds in
     (old, rests old left left' sent files clock session tells (session'.inbox.pending, found.1 ∙ tells.left_is), inl (at_end old.left (left_of session.inbox.pending left) tells.left_is found.0, same_rests old), moves)
 
-pub unread_leads : (Moves Tears : List Record → Type 0) (old : State) (left left' sent : Option (List ℕ)) (files : Option Files) (clock : Option (List ℕ)) (session session' : Session)
+pub unread_leads : (Cut : Type 0) (Moves Tears : List Record → Type 0) (old : State) (left left' sent : Option (List ℕ)) (files : Option Files) (clock : Option (List ℕ)) (session session' : Session)
     → Tells left sent files clock session old → left_of session'.inbox.pending left' ≡ left_of session.inbox.pending left → Moves old.log
-    → Leads old Moves Tears left' sent files clock session' (Ended exit.ReadFault)
-unread_leads Moves Tears old left left' sent files clock session session' tells same moves =
+    → Leads Cut old Moves Tears left' sent files clock session' (Ended exit.ReadFault)
+unread_leads Cut Moves Tears old left left' sent files clock session session' tells same moves =
     (old, rests old left left' sent files clock session tells (session'.inbox.pending, same ∙ tells.left_is), same_rests old, moves)

@@ -58,33 +58,33 @@ passed_sound first (next ∷ later) log turns (inr behind) sound = passed_sound 
 rests_sound : (old last : State) → Rests old last → IsSound old.log → IsSound last.log
 rests_sound old last rests sound = subst IsSound (sym rests.log) sound
 
-done_sound : (old last : State) → EndsAfter exit.Done old last → IsSound old.log → IsSound last.log
-done_sound old last (inl ended) sound = rests_sound old last ended.1 sound
-done_sound old last (inr closed) sound = answers_sound old last.left closed.0 _ last.log last.moments closed.1 sound
+done_sound : (Cut : Type 0) (old last : State) → EndsAfter Cut exit.Done old last → IsSound old.log → IsSound last.log
+done_sound Cut old last (inl ended) sound = rests_sound old last ended.1 sound
+done_sound Cut old last (inr closed) sound = answers_sound old last.left closed.0 _ last.log last.moments closed.1 sound
 
-ended_sound : (end : Exit) (old last : State) (log : List Record) → EndsAfter end old last → LeadsTo end old last log → IsSound old.log → IsSound log
-ended_sound exit.Done old last log ends leads sound = subst IsSound (sym leads) (done_sound old last ends sound)
-ended_sound exit.ReadFault old last log ends leads sound = subst IsSound (sym leads) (rests_sound old last ends sound)
-ended_sound exit.WriteFault old last log ends leads sound = subst IsSound (sym leads) (answers_sound old last.left ends.0 ends.1 last.log last.moments ends.3 sound)
-ended_sound exit.DiskFault old last log ends leads sound = subst IsSound (sym leads.4) (reply_sound old.log (first_moment old.moments) leads.0 leads.1 leads.3 sound)
-ended_sound (exit.BadWords place) old last log ends leads sound = absurd ends
-ended_sound (exit.Damaged file at) old last log ends leads sound = absurd ends
-ended_sound exit.Memory old last log ends leads sound = absurd ends
-ended_sound exit.TurnsSpent old last log ends leads sound = absurd ends
+ended_sound : (Cut : Type 0) (end : Exit) (old last : State) (log : List Record) → EndsAfter Cut end old last → LeadsTo end old last log → IsSound old.log → IsSound log
+ended_sound Cut exit.Done old last log ends leads sound = subst IsSound (sym leads) (done_sound Cut old last ends sound)
+ended_sound Cut exit.ReadFault old last log ends leads sound = subst IsSound (sym leads) (rests_sound old last ends sound)
+ended_sound Cut exit.WriteFault old last log ends leads sound = subst IsSound (sym leads) (answers_sound old last.left ends.0 ends.1 last.log last.moments ends.3 sound)
+ended_sound Cut exit.DiskFault old last log ends leads sound = subst IsSound (sym leads.4) (reply_sound old.log (first_moment old.moments) leads.0 leads.1 leads.3 sound)
+ended_sound Cut (exit.BadWords place) old last log ends leads sound = absurd ends
+ended_sound Cut (exit.Damaged file at) old last log ends leads sound = absurd ends
+ended_sound Cut exit.Memory old last log ends leads sound = absurd ends
+ended_sound Cut exit.TurnsSpent old last log ends leads sound = absurd ends
 
-of_run : (end : Exit) (first : State) (path : List State) (last : State) (log : List Record) → Turns first path → EndsAfter end (last_of first path) last → IsOfRun end first path last log → IsSound first.log → IsSound log
-of_run end first path last log turns ends (inl passed) sound = passed_sound first path log turns passed sound
-of_run end first path last log turns ends (inr leads) sound = ended_sound end (last_of first path) last log ends leads (turns_sound first path turns sound)
+of_run : (Cut : Type 0) (end : Exit) (first : State) (path : List State) (last : State) (log : List Record) → Turns first path → EndsAfter Cut end (last_of first path) last → IsOfRun end first path last log → IsSound first.log → IsSound log
+of_run Cut end first path last log turns ends (inl passed) sound = passed_sound first path log turns passed sound
+of_run Cut end first path last log turns ends (inr leads) sound = ended_sound Cut end (last_of first path) last log ends leads (turns_sound first path turns sound)
 
 -- Each log of a run is sound where the first one is.
-pub run_sound : (end : Exit) (first : State) (path : List State) (last : State) (log : List Record) → Ends end first path last → IsOfRun end first path last log → IsSound first.log → IsSound log
-run_sound exit.Done first path last log ends of sound = of_run exit.Done first path last log ends.0 ends.2 of sound
-run_sound exit.ReadFault first path last log ends of sound = of_run exit.ReadFault first path last log ends.0 ends.2 of sound
-run_sound exit.WriteFault first path last log ends of sound = of_run exit.WriteFault first path last log ends.0 ends.2 of sound
-run_sound exit.DiskFault first path last log ends of sound = of_run exit.DiskFault first path last log ends.0 ends.2 of sound
-run_sound (exit.BadWords place) first path last log ends of sound = absurd ends.2
-run_sound (exit.Damaged file at) first path last log ends of sound = absurd ends.2
-run_sound exit.Memory first path last log ends of sound = absurd ends.2
-run_sound exit.TurnsSpent first path last log ends (inl passed) sound = passed_sound first path log ends.0 passed sound
-run_sound exit.TurnsSpent first path last log ends (inr leads) sound =
+pub run_sound : (Cut : Type 0) (end : Exit) (first : State) (path : List State) (last : State) (log : List Record) → Ends Cut end first path last → IsOfRun end first path last log → IsSound first.log → IsSound log
+run_sound Cut exit.Done first path last log ends of sound = of_run Cut exit.Done first path last log ends.0 ends.2 of sound
+run_sound Cut exit.ReadFault first path last log ends of sound = of_run Cut exit.ReadFault first path last log ends.0 ends.2 of sound
+run_sound Cut exit.WriteFault first path last log ends of sound = of_run Cut exit.WriteFault first path last log ends.0 ends.2 of sound
+run_sound Cut exit.DiskFault first path last log ends of sound = of_run Cut exit.DiskFault first path last log ends.0 ends.2 of sound
+run_sound Cut (exit.BadWords place) first path last log ends of sound = absurd ends.2
+run_sound Cut (exit.Damaged file at) first path last log ends of sound = absurd ends.2
+run_sound Cut exit.Memory first path last log ends of sound = absurd ends.2
+run_sound Cut exit.TurnsSpent first path last log ends (inl passed) sound = passed_sound first path log ends.0 passed sound
+run_sound Cut exit.TurnsSpent first path last log ends (inr leads) sound =
     subst IsSound (sym leads) (subst (λ (state : State). IsSound state.log) (sym ends.2) (turns_sound first path ends.0 sound))

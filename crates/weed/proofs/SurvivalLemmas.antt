@@ -97,13 +97,13 @@ module _ {D : Type 0} (tick : D → ℕ) (images : D → Files → Type 0) (sinc
     }
 
     module _ (now : D) (end : Exit) (first : State) (path : List State) (last : State) (sound : IsSound first.log) (withstands : Withstands tick images since sent mid now end first path last)
-        (ends : Ends end first path last) where
+        (Cut : Type 0) (ends : Ends Cut end first path last) where
       -- a run with its session
       session_crash : (image : Files) → since now (tick start) image → (log : List Record) × IsSoundLog image log × (IsAtStart (images start) log ⊎ IsOfRun end first path last log)
       session_crash image left =
           elim (withstands.leaves.each (tick start) image opens.later left) as (λ _. (log : List Record) × IsSoundLog image log × (IsAtStart (images start) log ⊎ IsOfRun end first path last log)) [
             | inl before ↦ let was = before_session image before in (was.0, was.1, inl was.2)
-            | inr of_run ↦ (of_run.0, (of_run.1, run_sound end first path last of_run.0 ends of_run.2 sound), inr of_run.2)
+            | inr of_run ↦ (of_run.0, (of_run.1, run_sound Cut end first path last of_run.0 ends of_run.2 sound), inr of_run.2)
           ]
 
       session_logs : (image : Files) → images now image → (log : List Record) × IsRecordLog image log × IsSound log

@@ -47,11 +47,11 @@ pub record EndsUnread (end : Exit) (sent sent' : Option (List Piece)) (left left
   pub unsent : sent' ≡ sent
   pub unread : left' ≡ left
 
--- A run ends as its session does, or before it. `Leaves` tells what came of it where its own logs are these: those
--- of its session, or none.
-abbrev pub EndsRun : Exit → State → List State → State → ((List Record → Type 0) → Type 0) → Type 0
-EndsRun end first path last Leaves =
-    (Ends end first path last × Leaves (IsOfRun end first path last))
+-- A run ends as its session does, or before it. `Cut` says that a send failed, and `Leaves` what came of the run
+-- where its own logs are these: those of its session, or none.
+abbrev pub EndsRun : (Cut : Type 0) → Exit → State → List State → State → ((List Record → Type 0) → Type 0) → Type 0
+EndsRun Cut end first path last Leaves =
+    (Ends Cut end first path last × Leaves (IsOfRun end first path last))
     ⊎ (IsEarly end × (path ≡ []) × Rests first last × Leaves (λ _. ⊥))
 
 -- Where it is damage, its file and place are so.

@@ -98,27 +98,31 @@ pub record Rests (old last : State) : Type 0 where
   pub log : last.log ≡ old.log
   pub moments : last.moments ≡ old.moments
 
--- How a session ends behind a request that was answered whole, or at its start:
-abbrev pub EndsAfter : Exit → State → State → Type 0
+-- Behind these bytes an answer was sent whole, or a front of it where a send failed.
+abbrev pub SendsUnlessCut : (Cut : Type 0) → List ℕ → List ℕ → List ℕ → Type 0
+SendsUnlessCut Cut before answer sent = (sent ≡ before ++ answer) ⊎ (Cut × (count : ℕ) × (sent ≡ before ++ take count answer))
+
+-- How a session ends behind a request that was answered whole, or at its start, where `Cut` says that a send failed:
+abbrev pub EndsAfter : (Cut : Type 0) → Exit → State → State → Type 0
 -- at the end of the input, or with an answer that closes
-EndsAfter exit.Done old last =
+EndsAfter Cut exit.Done old last =
     ((old.left ≡ []) × Rests old last)
     ⊎ ((answer : List ℕ) × Answers old last.left answer true last.log last.moments × (last.sent ≡ old.sent ++ answer))
 -- before the next request was read
-EndsAfter exit.ReadFault old last = Rests old last
+EndsAfter Cut exit.ReadFault old last = Rests old last
 -- with a front of the answer that was due
-EndsAfter exit.WriteFault old last =
+EndsAfter Cut exit.WriteFault old last =
     (answer : List ℕ) × (closes : Bool) × (count : ℕ) × Answers old last.left answer closes last.log last.moments
     × (last.sent ≡ old.sent ++ take count answer)
--- with a front of the answer 500, and with the records of the request that met the fault in the log or not
-EndsAfter exit.DiskFault old last =
-    (target : List ℕ) × (says : Answering) × (count : ℕ) × Requests old.left target last.left
-    × IsReply old.log (first_moment old.moments) target says × (last.sent ≡ old.sent ++ take count disk_answer)
+-- with the answer 500, and with the records of the request that met the fault in the log or not
+EndsAfter Cut exit.DiskFault old last =
+    (target : List ℕ) × (says : Answering) × Requests old.left target last.left
+    × IsReply old.log (first_moment old.moments) target says × SendsUnlessCut Cut old.sent disk_answer last.sent
     × ((last.log ≡ old.log) ⊎ (last.log ≡ old.log ++ says.added)) × (last.moments ≡ moments_after says old.moments)
-EndsAfter (exit.BadWords place) old last = ⊥
-EndsAfter (exit.Damaged file at) old last = ⊥
-EndsAfter exit.Memory old last = ⊥
-EndsAfter exit.TurnsSpent old last = ⊥
+EndsAfter Cut (exit.BadWords place) old last = ⊥
+EndsAfter Cut (exit.Damaged file at) old last = ⊥
+EndsAfter Cut exit.Memory old last = ⊥
+EndsAfter Cut exit.TurnsSpent old last = ⊥
 
 -- The log that the last request of a session led to, or was to lead to where it met a fault of the disk
 abbrev pub LeadsTo : Exit → State → State → List Record → Type 0

@@ -41,20 +41,21 @@ Sends answer closes old new (Ended exit.Memory) = ⊥
 Sends answer closes old new (Ended exit.TurnsSpent) = ⊥
 
 -- From a state a turn led to another one, or the session ended as it says. `Moves` tells what came of the disk on
--- the way to a log, and `Tears` what came of it where a call failed.
-abbrev pub Leads : State → (List Record → Type 0) → (List Record → Type 0) → Option (List ℕ) → Option (List ℕ) → Option Files → Option (List ℕ) → Session → Turned → Type 0
-Leads old Moves Tears left sent files moments session Open =
+-- the way to a log, and `Tears` what came of it where a call failed; `Cut` says that a send failed.
+abbrev pub Leads : (Cut : Type 0) → State → (List Record → Type 0) → (List Record → Type 0) → Option (List ℕ) → Option (List ℕ) → Option Files → Option (List ℕ) → Session → Turned → Type 0
+Leads Cut old Moves Tears left sent files moments session Open =
     (new : State) × Tells left sent files moments session new × Turn old new × Moves new.log
-Leads old Moves Tears left sent files moments session (Ended exit.DiskFault) =
-    (last : State) × Stands left sent files moments last × EndsAfter exit.DiskFault old last
+Leads Cut old Moves Tears left sent files moments session (Ended exit.DiskFault) =
+    (last : State) × Stands left sent files moments last × EndsAfter Cut exit.DiskFault old last
     × ((log : List Record) × LeadsTo exit.DiskFault old last log × Tears log)
-Leads old Moves Tears left sent files moments session (Ended end) =
-    (last : State) × Stands left sent files moments last × EndsAfter end old last × Moves last.log
+Leads Cut old Moves Tears left sent files moments session (Ended end) =
+    (last : State) × Stands left sent files moments last × EndsAfter Cut end old last × Moves last.log
 
--- How a run of turns ended: after as many requests as a session answers, or before that.
-abbrev pub Ends : Exit → State → List State → State → Type 0
-Ends exit.TurnsSpent first path last = Turns first path × (length path ≡ most_turns) × (last ≡ last_of first path)
-Ends end first path last = Turns first path × (length path < most_turns) × EndsAfter end (last_of first path) last
+-- How a run of turns ended: after as many requests as a session answers, or before that. `Cut` says that a send
+-- failed.
+abbrev pub Ends : (Cut : Type 0) → Exit → State → List State → State → Type 0
+Ends Cut exit.TurnsSpent first path last = Turns first path × (length path ≡ most_turns) × (last ≡ last_of first path)
+Ends Cut end first path last = Turns first path × (length path < most_turns) × EndsAfter Cut end (last_of first path) last
 
 -- The ends that a session has of itself: the log was opened, and the words were good.
 abbrev pub IsSessionEnd : Exit → Type 0

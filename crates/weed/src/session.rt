@@ -67,7 +67,7 @@ pub fn run<S: Source, H: Host, C: Clock>(
 ) -> Exit
     requires { (records : List Record) × HoldsFiler (H.files world.old.host) session.old.filer records }
     ensures ends { (first : State) → Tells (S.left world.old.source) (bytes_sent (H.sent world.old.host)) (H.files world.old.host) (C.moments world.old.clock) session.old first
-        → (path : List State) × (last : State) × Stands (S.left world.new.source) (bytes_sent (H.sent world.new.host)) (H.files world.new.host) (C.moments world.new.clock) last × Ends result first path last
+        → (path : List State) × (last : State) × Stands (S.left world.new.source) (bytes_sent (H.sent world.new.host)) (H.files world.new.host) (C.moments world.new.clock) last × Ends (Rose (H.send_faults world.old.host) (H.send_faults world.new.host)) result first path last
         × (ImagesKeep (H.images world.old.host) first.log → Withstands H.tick H.images H.image_since H.sent world.old.host world.new.host result first path last) }
     ensures disk { result ≡ Exit.DiskFault → Rose (H.faults world.old.host) (H.faults world.new.host) }
     ensures read { result ≡ Exit.ReadFault → Rose (S.faults world.old.source) (S.faults world.new.source) }
@@ -92,7 +92,7 @@ fn turn<S: Source, H: Host, C: Clock>(
 ) -> Turned
     requires { (records : List Record) × HoldsFiler (H.files world.old.host) session.old.filer records }
     ensures leads { (old : State) → Tells (S.left world.old.source) (bytes_sent (H.sent world.old.host)) (H.files world.old.host) (C.moments world.old.clock) session.old old
-        → Leads old (Settling H.tick H.images H.image_since world.old.host world.new.host old.log) (Tearing H.tick H.images H.image_since world.old.host world.new.host old.log)
+        → Leads (Rose (H.send_faults world.old.host) (H.send_faults world.new.host)) old (Settling H.tick H.images H.image_since world.old.host world.new.host old.log) (Tearing H.tick H.images H.image_since world.old.host world.new.host old.log)
         (S.left world.new.source) (bytes_sent (H.sent world.new.host)) (H.files world.new.host) (C.moments world.new.clock) session.new result }
     ensures pieces { SendsAt (H.tick world.new.host) (H.sent world.old.host) (H.sent world.new.host) }
     ensures held { result ≡ Turned.Open → (records : List Record) × HoldsFiler (H.files world.new.host) session.new.filer records }
@@ -120,7 +120,7 @@ fn answer_request<S: Source, H: Host, C: Clock>(
 ) -> Turned
     requires { (records : List Record) × HoldsFiler (H.files world.old.host) session.old.filer records }
     ensures leads { (old : State) (rest : List ℕ) → Asking old rest (S.left world.old.source) (bytes_sent (H.sent world.old.host)) (H.files world.old.host) (C.moments world.old.clock) session.old
-        → Leads old (Settling H.tick H.images H.image_since world.old.host world.new.host old.log) (Tearing H.tick H.images H.image_since world.old.host world.new.host old.log)
+        → Leads (Rose (H.send_faults world.old.host) (H.send_faults world.new.host)) old (Settling H.tick H.images H.image_since world.old.host world.new.host old.log) (Tearing H.tick H.images H.image_since world.old.host world.new.host old.log)
         (S.left world.new.source) (bytes_sent (H.sent world.new.host)) (H.files world.new.host) (C.moments world.new.clock) session.new result }
     ensures pieces { SendsAt (H.tick world.new.host) (H.sent world.old.host) (H.sent world.new.host) }
     ensures held { result ≡ Turned.Open → (records : List Record) × HoldsFiler (H.files world.new.host) session.new.filer records }

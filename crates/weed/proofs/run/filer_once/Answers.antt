@@ -1,7 +1,9 @@
-use Rattle.std.proofs.Common.{inl, inr, [], refl, ap}
+use Rattle.std.proofs.Common.{inl, inr, [], refl, ap, subst}
+use Rattle.weed_base.specs.Told.{Rose}
 use Rattle.weed_base.specs.Sent.{bytes_sent}
 use Rattle.meta_log.specs.Making.{LeavesOthers}
 use Rattle.meta_log.specs.declared.stem.Stem.TheVariants.{Log}
+use Rattle.weed.specs.Tells.{Ends}
 use Rattle.weed.proofs.RunLemmas.{found_log, begun_tells, early_stands, session_is_sound, session_has_words}
 use Rattle.weed.proofs.SessionLemmas.{same_rests}
 use Rattle.weed.proofs.SurvivalLemmas.{log_told, own_is_sound, survives_early, survives_session}
@@ -21,16 +23,18 @@ returns-in-Ok-clause-answers g c first starts =
     let tells = begun_tells (g.S.Source.left c.args.world.now.source) (bytes_sent (disk.sent old)) (bytes_sent (disk.sent mid)) (disk.files old) (disk.files mid) (g.C.Clock.moments c.args.world.now.clock) c.in-Ok.session first
     starts c.in-Ok.ensures.began (ap bytes_sent c.in-Ok.ensures.sent.0) in
     let ran = c.run.ensures.ends first tells in
+    let ends : Ends (Rose (disk.send_faults old) (disk.send_faults c.run.new.world.host)) c.run.result first ran.0 ran.1 =
+    subst (λ faults. Ends (Rose faults (disk.send_faults c.run.new.world.host)) c.run.result first ran.0 ran.1) c.in-Ok.ensures.sent.1 ran.3 in
     let log = log_told (disk.files old) first.log starts.stands.log_is in (
       ran.0,
       ran.1,
       ran.2,
       inl (
-        ran.3,
+        ends,
         λ own.
             survives_session disk.tick disk.images disk.image_since disk.sent g.met.H.Disk.only_now g.met.H.Disk.counts_now old mid own (c.in-Ok.ensures.atomic log.0 log.1) _ c.run.result first ran.0 ran.1
             (own_is_sound (disk.images old) log.0 first.log own (g.met.H.Disk.reads_now old log.0 log.1) log.2)
-            (ran.4 (c.in-Ok.ensures.settled log.0 first.log log.1 log.2)) ran.3,
+            (ran.4 (c.in-Ok.ensures.settled log.0 first.log log.1 log.2)) _ ends,
       ),
     )
 

@@ -1,4 +1,5 @@
 use Rattle.std.proofs.Common.{◌⊎◌, inl, inr}
+use Rattle.weed_base.specs.Told.{Rose}
 use Rattle.weed.specs.Run.{IsEarly}
 use Rattle.weed.specs.Tells.{Ends}
 use Rattle.weed.proofs.RunLemmas.{completes}
@@ -9,8 +10,8 @@ returns-in-Ok-FilerOnce-clause-complete g c dir first good starts no_disk no_rea
     let ran = c.filer_once-exit.ensures in
     let end = c.filer_once-exit.result in
     let ended = ran.answers first starts in
-    let how = elim ended.3 as (λ _. Ends end first ended.0 ended.1 ⊎ IsEarly end) [
+    let how = elim ended.3 as (λ _. Ends (Rose (g.H.Disk.send_faults c.args.world.host) (g.H.Disk.send_faults c.filer_once-exit.new.world.host)) end first ended.0 ended.1 ⊎ IsEarly end) [
       | inl session ↦ inl session.0
       | inr early ↦ inr early.0
     ] in
-    completes (g.H.Disk.files c.args.world.host) _ _ _ _ end first starts.stands.log_is ended.0 ended.1 how ran.good_words ran.damaged ran.disk ran.read ran.write no_disk no_read no_write few
+    completes _ (g.H.Disk.files c.args.world.host) _ _ _ _ end first starts.stands.log_is ended.0 ended.1 how ran.good_words ran.damaged ran.disk ran.read ran.write no_disk no_read no_write few

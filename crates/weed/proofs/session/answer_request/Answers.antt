@@ -1,4 +1,6 @@
 use Rattle.std.proofs.Common.{ℕ, List, Err, Ok, ap, ◌∙◌, subst}
+use Rattle.std.specs.Prelude.{OnErr}
+use Rattle.weed_base.specs.Told.{Rose}
 use Rattle.weed_base.specs.Sent.{bytes_sent}
 use Rattle.weed.specs.Settling.{Settling, Tearing}
 use Rattle.weed.proofs.HandedLemmas.{sends_behind}
@@ -16,7 +18,7 @@ returns-in-Ok-clause-leads g c old rest asking =
     let tears = Tearing disk.tick disk.images disk.image_since host c.reply_to_target.new.disk in
     let sent = Settling disk.tick disk.images disk.image_since host c.send_answer.new.host in
     let torn = Tearing disk.tick disk.images disk.image_since host c.send_answer.new.host in
-    replied_leads moves tears sent torn old rest c.args.session.now.inbox.target (g.S.Source.left c.args.world.now.source)
+    replied_leads (Rose (disk.send_faults host) (disk.send_faults c.send_answer.new.host)) moves tears sent torn old rest c.args.session.now.inbox.target (g.S.Source.left c.args.world.now.source)
     (bytes_sent (g.H.Disk.sent c.args.world.now.host)) (bytes_sent (g.H.Disk.sent c.reply_to_target.new.disk)) (bytes_sent (g.H.Disk.sent c.send_answer.new.host))
     (g.H.Disk.files c.args.world.now.host) (g.H.Disk.files c.reply_to_target.new.disk) (g.H.Disk.files c.send_answer.new.host)
     (g.C.Clock.moments c.args.world.now.clock) (g.C.Clock.moments c.reply_to_target.new.clock)
@@ -37,7 +39,7 @@ returns-in-Err-Memory-clause-leads g c old rest asking =
     let sent = Settling disk.tick disk.images disk.image_since host c.send_answer-in-Err-Memory.new.host in
     let torn = Tearing disk.tick disk.images disk.image_since host c.send_answer-in-Err-Memory.new.host in
     let given = subst (λ (fault : ReplyFault). GivesTold moves tears (g.H.Disk.files c.args.world.now.host) (g.C.Clock.moments c.args.world.now.clock) c.args.session.now.filer c.target-target.result.now (g.H.Disk.files c.reply_to_target.new.disk) (g.C.Clock.moments c.reply_to_target.new.clock) c.reply_to_target.new.filer (Err fault)) c.in-Err-Memory.field-0-is c.in-Err-Memory.ensures.gives in
-    lacked_leads moves tears sent torn old rest c.args.session.now.inbox.target (g.S.Source.left c.args.world.now.source)
+    lacked_leads (Rose (disk.send_faults host) (disk.send_faults c.send_answer-in-Err-Memory.new.host)) moves tears sent torn old rest c.args.session.now.inbox.target (g.S.Source.left c.args.world.now.source)
     (bytes_sent (g.H.Disk.sent c.args.world.now.host)) (bytes_sent (g.H.Disk.sent c.reply_to_target.new.disk)) (bytes_sent (g.H.Disk.sent c.send_answer-in-Err-Memory.new.host))
     (g.H.Disk.files c.args.world.now.host) (g.H.Disk.files c.reply_to_target.new.disk) (g.H.Disk.files c.send_answer-in-Err-Memory.new.host)
     (g.C.Clock.moments c.args.world.now.clock) (g.C.Clock.moments c.reply_to_target.new.clock)
@@ -59,7 +61,7 @@ returns-in-Err-DiskFault-clause-leads g c old rest asking =
     let sent = Settling disk.tick disk.images disk.image_since host c.send_all.new.host in
     let torn = Tearing disk.tick disk.images disk.image_since host c.send_all.new.host in
     let given = subst (λ (fault : ReplyFault). GivesTold moves tears (g.H.Disk.files c.args.world.now.host) (g.C.Clock.moments c.args.world.now.clock) c.args.session.now.filer c.target-target.result.now (g.H.Disk.files c.reply_to_target.new.disk) (g.C.Clock.moments c.reply_to_target.new.clock) c.reply_to_target.new.filer (Err fault)) c.in-Err-DiskFault.field-0-is c.in-Err-DiskFault.ensures.gives in
-    faulted_leads moves tears sent torn old rest c.args.session.now.inbox.target (g.S.Source.left c.args.world.now.source)
+    faulted_leads (Rose (disk.send_faults host) (disk.send_faults c.send_all.new.host)) moves tears sent torn old rest c.args.session.now.inbox.target (g.S.Source.left c.args.world.now.source)
     (bytes_sent (g.H.Disk.sent c.args.world.now.host)) (bytes_sent (g.H.Disk.sent c.reply_to_target.new.disk)) (bytes_sent (g.H.Disk.sent c.send_all.new.host))
     (g.H.Disk.files c.args.world.now.host) (g.H.Disk.files c.reply_to_target.new.disk) (g.H.Disk.files c.send_all.new.host)
     (g.C.Clock.moments c.args.world.now.clock) (g.C.Clock.moments c.reply_to_target.new.clock)
@@ -70,7 +72,7 @@ returns-in-Err-DiskFault-clause-leads g c old rest asking =
     (λ before after. tears_sent disk.tick disk.images disk.image_since host c.reply_to_target.new.disk c.send_all.new.host before after c.send_all.ensures.still)
     asking.filer asking.moments_are asking.sent_is (ap bytes_sent c.reply_to_target.ensures.sent.0) c.send_all.ensures.files
     (c.as_slice-in-Err-DiskFault.ensures ∙ c.args.session.now.standing.disk_fault_is)
-    c.send_all.ensures.bytes asking.left_is
+    c.send_all.ensures.bytes (subst (λ faults. OnErr c.send_all.result (Rose faults (disk.send_faults c.send_all.new.host))) c.reply_to_target.ensures.sent.1 c.send_all.ensures.cause.failed) asking.left_is
 
 pub returns-in-Ok-clause-pieces : goal.returns-in-Ok-clause-pieces
 returns-in-Ok-clause-pieces g c =

@@ -1,5 +1,6 @@
 use Rattle.std.proofs.Common.{◌≡◌, ◌<◌, ◌+◌, ◌∙◌, ◌++◌, ◌∷◌, [], length, refl, sym, ap, subst, arith}
 use Rattle.std.proofs.lemmas.List.{length_push}
+use Rattle.weed_base.specs.Told.{Rose}
 use Rattle.weed_base.specs.Sent.{bytes_sent}
 use Rattle.weed.specs.Session.{State, Turn, last_of, most_turns}
 use Rattle.weed.proofs.SessionLemmas.{rests}
@@ -45,7 +46,10 @@ returns-in-Ended-clause-ends g c first tells =
     let disk = g.H.Disk in
     let before = c.loop-turn.invariant.led first tells in
     let few : length before.0 < most_turns = omega (arith, before.3) in
-    ends_after disk.tick disk.images disk.image_since disk.sent g.met.H.Disk.only_now g.met.H.Disk.counts_now c.args.world.now.host c.loop-turn.world.host c.turn.new.world.host c.in-Ended.exit first before.0
+    let start = disk.send_faults c.args.world.now.host in
+    let mid = disk.send_faults c.loop-turn.world.host in
+    let now = disk.send_faults c.turn.new.world.host in
+    ends_after (Rose mid now) (Rose start now) (λ rose. omega (arith, rose, c.loop-turn.invariant.write_later)) disk.tick disk.images disk.image_since disk.sent g.met.H.Disk.only_now g.met.H.Disk.counts_now c.args.world.now.host c.loop-turn.world.host c.turn.new.world.host c.in-Ended.exit first before.0
     (g.S.Source.left c.turn.new.world.source) (bytes_sent (disk.sent c.turn.new.world.host)) (disk.files c.turn.new.world.host) (g.C.Clock.moments c.turn.new.world.clock) c.turn.new.session
     before.2 few before.4 before.1.sent_is c.in-Ended.ensures.pieces (c.in-Ended.ensures.leads (last_of first before.0) before.1)
 

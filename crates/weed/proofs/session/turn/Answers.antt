@@ -1,4 +1,5 @@
 use Rattle.std.proofs.Common.{refl, ◌∙◌}
+use Rattle.weed_base.specs.Told.{Rose}
 use Rattle.weed_base.specs.Sent.{bytes_sent}
 use Rattle.weed.specs.Settling.{Settling, Tearing}
 use Rattle.weed.proofs.HandedLemmas.{sends_nothing}
@@ -17,7 +18,7 @@ pub returns-in-Ok-NotYet-clause-leads : goal.returns-in-Ok-NotYet-clause-leads
 returns-in-Ok-NotYet-clause-leads g c old tells =
     let disk = g.H.Disk in
     let host = c.args.world.now.host in
-    refused_leads (Settling disk.tick disk.images disk.image_since host c.send_answer.new.host old.log) (Tearing disk.tick disk.images disk.image_since host c.send_answer.new.host old.log) old (g.S.Source.left c.args.world.now.source) (g.S.Source.left c.next_head.new.from) (bytes_sent (g.H.Disk.sent c.args.world.now.host)) (bytes_sent (g.H.Disk.sent c.send_answer.new.host)) (g.H.Disk.files c.args.world.now.host) (g.H.Disk.files c.send_answer.new.host) (g.C.Clock.moments c.args.world.now.clock)
+    refused_leads (Rose (disk.send_faults host) (disk.send_faults c.send_answer.new.host)) (Settling disk.tick disk.images disk.image_since host c.send_answer.new.host old.log) (Tearing disk.tick disk.images disk.image_since host c.send_answer.new.host old.log) old (g.S.Source.left c.args.world.now.source) (g.S.Source.left c.next_head.new.from) (bytes_sent (g.H.Disk.sent c.args.world.now.host)) (bytes_sent (g.H.Disk.sent c.send_answer.new.host)) (g.H.Disk.files c.args.world.now.host) (g.H.Disk.files c.send_answer.new.host) (g.C.Clock.moments c.args.world.now.clock)
     c.args.session.now (record { filer = c.args.session.now.filer; inbox = c.next_head.new.inbox; standing = c.args.session.now.standing }) c.in-Ok-NotYet.field-0 c.as_slice.result.now c.send_answer.result
     tells c.in-Ok-NotYet.field-0-is c.in-Ok-NotYet.ensures.head refl c.send_answer.ensures.files (c.as_slice.ensures ∙ c.args.session.now.standing.not_yet_is) c.send_answer.ensures.sends
     (settles_sent disk.tick disk.images disk.image_since host host c.send_answer.new.host old.log old.log c.send_answer.ensures.still (settles_nothing disk.tick disk.images disk.image_since host old.log))
@@ -27,7 +28,7 @@ returns-in-Ok-End-clause-leads g c old tells =
     let disk = g.H.Disk in
     let host = c.args.world.now.host in
     let left = g.S.Source.left c.next_head.new.from in
-    ended_leads (Settling disk.tick disk.images disk.image_since host host old.log) (Tearing disk.tick disk.images disk.image_since host host old.log) old (g.S.Source.left c.args.world.now.source) left
+    ended_leads (Rose (disk.send_faults host) (disk.send_faults host)) (Settling disk.tick disk.images disk.image_since host host old.log) (Tearing disk.tick disk.images disk.image_since host host old.log) old (g.S.Source.left c.args.world.now.source) left
     (bytes_sent (disk.sent host)) (disk.files host) (g.C.Clock.moments c.args.world.now.clock)
     c.args.session.now (record { filer = c.args.session.now.filer; inbox = c.next_head.new.inbox; standing = c.args.session.now.standing }) c.in-Ok-End.field-0
     tells c.in-Ok-End.field-0-is c.in-Ok-End.ensures.head (settles_nothing disk.tick disk.images disk.image_since host old.log)
@@ -39,7 +40,7 @@ pub returns-in-Err-clause-leads : goal.returns-in-Err-clause-leads
 returns-in-Err-clause-leads g c old tells =
     let disk = g.H.Disk in
     let host = c.args.world.now.host in
-    unread_leads (Settling disk.tick disk.images disk.image_since host host old.log) (Tearing disk.tick disk.images disk.image_since host host old.log) old (g.S.Source.left c.args.world.now.source) (g.S.Source.left c.next_head.new.from)
+    unread_leads (Rose (disk.send_faults host) (disk.send_faults host)) (Settling disk.tick disk.images disk.image_since host host old.log) (Tearing disk.tick disk.images disk.image_since host host old.log) old (g.S.Source.left c.args.world.now.source) (g.S.Source.left c.next_head.new.from)
     (bytes_sent (disk.sent host)) (disk.files host) (g.C.Clock.moments c.args.world.now.clock)
     c.args.session.now (record { filer = c.args.session.now.filer; inbox = c.next_head.new.inbox; standing = c.args.session.now.standing })
     tells c.in-Err.ensures.head (settles_nothing disk.tick disk.images disk.image_since host old.log)
