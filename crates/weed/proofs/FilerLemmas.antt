@@ -13,7 +13,7 @@ use Rattle.meta_log.specs.Records.{ReadsAs}
 use Rattle.meta_log.specs.Making.{LeavesOthers}
 use Rattle.meta_log.specs.Kept.{HoldsRecords, HoldsEitherLog, IsOpenedFrom}
 use Rattle.meta_log.specs.declared.stem.Stem.TheVariants.{Log}
-use Rattle.weed.specs.NameList.{names_of}
+use Rattle.weed.specs.NameTable.{names_of}
 use Rattle.weed.specs.Filer.{IsFiled, IsFiledFrom, HoldsFiler, Makes}
 use Rattle.weed.specs.Replay.{HoldsNames}
 use Rattle.meta_log.specs.declared.meta_log.MetaLog.{MetaLog}

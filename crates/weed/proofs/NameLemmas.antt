@@ -1,22 +1,24 @@
--- What a change says of a path.
-use Rattle.std.proofs.Common.{◌≡◌, ◌≢◌, ◌↔◌, ℕ, Bool, true, false, cond, List, [], ◌∷◌, ◌++◌, length, take, drop, Option, Some, None, refl, sym, ap, ◌∙◌, subst, inl, inr, IsTrue, not}
-use Rattle.std.proofs.lemmas.List.{append-nil, take-append-drop, nil_from_length}
+-- What changes make of the names in a table.
+use Rattle.std.proofs.Common.{◌≡◌, ◌≢◌, ◌↔◌, ℕ, Bool, true, false, cond, List, [], ◌∷◌, ◌++◌, length, take, drop, Option, Some, None, Result, Ok, Err, refl, sym, ap, ◌∙◌, subst, inl, inr, IsTrue, not}
+use Rattle.std.proofs.lemmas.List.{append-nil, take-append-drop}
 use Rattle.std.proofs.Math.Seq.{take-length, take-append_seam}
 use Rattle.std.specs.Ordering.{nat_cmp}
+use Rattle.std.specs.Prelude.{IsOk, OnOk}
+use Rattle.std.specs.Cmp.{eq_by_cmp_equiv}
 use Rattle.std.specs.Cmp.Lexicographic.{slice_cmp, texts_ties, lists_ties}
-use Rattle.std.specs.Prelude.{All}
-use Rattle.std.specs.FinMap.{get, insert, empty, get-empty, get-retain_keys}
-use Rattle.std.proofs.lemmas.List.Elements.{All-head, All-tail}
+use Rattle.std.specs.FinMap.{find, from_entries, get, insert, get-empty, get-from_entries, get-insert, get-retain_keys, same_map}
+use Rattle.std.specs.List.{filter}
+use Rattle.std.specs.Map.{lookup}
 use Rattle.std.proofs.lemmas.Bool.{cases_Bool}
+use Rattle.std.proofs.lemmas.Map.Entries.{lookup-filter-keys}
 use Rattle.weed_base.specs.Path.{IsBelow}
 use Rattle.name_core.specs.declared.entry.Entry.{Entry}
 use Rattle.name_core.specs.declared.change.Change.{Change}
 use Rattle.name_core.specs.declared.change.Change.TheVariants.{Put, Drop}
-use Rattle.name_core.specs.Namespace.{Namespace, step, after_changes, is_within}
+use Rattle.name_core.specs.Namespace.{Namespace, step, is_within}
 use Rattle.name_core.specs.Entry.{IsValid}
-use Rattle.name_core.proofs.NamespaceLemmas.{after_changes-append}
-use Rattle.weed.specs.Said.{IsKept}
-use Rattle.name_core.proofs.Paths.{same_path, same_path-refl, same_path-exact, get-insert_same, get-insert_other, path_cmp-IsAntisymmetric, cases_path}
+use Rattle.weed.specs.KeptNames.{IsKept, AreKept}
+use Rattle.name_core.proofs.Paths.{same_path, same_path-refl, same_path-exact, get-insert_same, get-insert_other, path_cmp_total, path_cmp-IsAntisymmetric, cases_path}
 
 -- A path is within a top where the top is its front.
 within_front : (top path : List (List ℕ)) → is_within top path ≡ same_path top (take (length top) path)
@@ -48,10 +50,10 @@ within_is top path false false top_is below_is =
     ]
 
 -- A put says of its path what it puts, and nothing of another.
-pub put_says : (at path : List (List ℕ)) (entry : Entry) → path ≡ at → (names : Namespace) → get (step (Put at entry) names) path ≡ Some entry
+put_says : (at path : List (List ℕ)) (entry : Entry) → path ≡ at → (names : Namespace) → get (step (Put at entry) names) path ≡ Some entry
 put_says at path entry same names = ap (get (insert names at entry)) same ∙ get-insert_same names at entry
 
-pub put_is_silent : (at path : List (List ℕ)) (entry : Entry) → path ≢ at → (names : Namespace) → get (step (Put at entry) names) path ≡ get names path
+put_is_silent : (at path : List (List ℕ)) (entry : Entry) → path ≢ at → (names : Namespace) → get (step (Put at entry) names) path ≡ get names path
 put_is_silent at path entry other names = get-insert_other names at entry path other
 
 -- A drop says that nothing is at its path or below, and nothing of another path.
@@ -60,40 +62,84 @@ drop_says_of top path names =
     get-retain_keys names (λ other. not (is_within top other)) path
     (λ other tied. ap (λ p. not (is_within top p)) (sym (path_cmp-IsAntisymmetric path other tied)))
 
-pub drop_says : (top path : List (List ℕ)) → true ≡ is_within top path → (names : Namespace) → get (step (Drop top) names) path ≡ None
+drop_says : (top path : List (List ℕ)) → true ≡ is_within top path → (names : Namespace) → get (step (Drop top) names) path ≡ None
 drop_says top path within names = drop_says_of top path names ∙ ap (λ b. cond (not b) (get names path) None) (sym within)
 
-pub drop_is_silent : (top path : List (List ℕ)) → false ≡ is_within top path → (names : Namespace) → get (step (Drop top) names) path ≡ get names path
+drop_is_silent : (top path : List (List ℕ)) → false ≡ is_within top path → (names : Namespace) → get (step (Drop top) names) path ≡ get names path
 drop_is_silent top path apart names = drop_says_of top path names ∙ ap (λ b. cond (not b) (get names path) None) (sym apart)
 
--- A list of changes with one more behind it
-pub committed : (old new more : List Change) → new ≡ old ++ more → after_changes new empty ≡ after_changes more (after_changes old empty)
-committed old new more grown = ap (λ changes. after_changes changes empty) grown ∙ after_changes-append old more empty
+-- Two paths are one where the order of paths tells so.
+pub same_is : (a b : List (List ℕ)) (is : Bool) → (IsTrue is ↔ (a ≡ b)) → is ≡ same_path a b
+same_is a b true told = sym (ap (same_path a) (sym (told.0 refl)) ∙ same_path-refl a)
+same_is a b false told =
+    elim (cases_path a b) [
+      | inl same ↦ let is : false ≡ true = told.1 same in cc
+      | inr apart ↦ sym apart.0
+    ]
 
--- What the last change of a list says of a path is what the list leaves there.
-pub last_says : (older before : List Change) (change : Change) (path : List (List ℕ)) (said : Option Entry)
-    → older ≡ before ++ change ∷ []
-    → ((names : Namespace) → get (step change names) path ≡ said)
-    → get (after_changes older empty) path ≡ said
-last_says older before change path said split says =
-    ap (λ names. get names path) (committed before older (change ∷ []) split) ∙ says (after_changes before empty)
+-- The entries of a table, found by their paths.
+abbrev Entries : Type 0
+Entries = List (List (List ℕ) × Entry)
 
-pub last_is_silent : (older before : List Change) (change : Change) (path : List (List ℕ))
-    → older ≡ before ++ change ∷ []
-    → ((names : Namespace) → get (step change names) path ≡ get names path)
-    → get (after_changes older empty) path ≡ get (after_changes before empty) path
-last_is_silent older before change path split says =
-    ap (λ names. get names path) (committed before older (change ∷ []) split) ∙ says (after_changes before empty)
+found : (path : List (List ℕ)) (entries : Entries) → find (slice_cmp (slice_cmp nat_cmp)) path entries ≡ lookup (same_path path) entries
+found path [] = refl
+found path (e ∷ entries) = ap (cond (same_path path e.0) (Some e.1)) (found path entries)
 
--- What a map keeps to: no entry is the root's, and each is valid.
-pub record KeepsKept (names : Namespace) : Type 0 where
-  pub each : (path : List (List ℕ)) (entry : Entry) → get names path ≡ Some entry → (path ≢ []) × IsValid entry
+-- A look-up in the entries is a look-up in the names.
+pub looked_up : (path : List (List ℕ)) (entries : Entries) → lookup (same_path path) entries ≡ get (from_entries {R = slice_cmp (slice_cmp nat_cmp)} entries) path
+looked_up path entries = sym (get-from_entries path_cmp_total entries path ∙ found path entries)
+
+pub found_at : (entries : Entries) (key path : List (List ℕ)) (there : Option Entry) → key ≡ path
+    → there ≡ lookup (same_path key) entries → there ≡ get (from_entries {R = slice_cmp (slice_cmp nat_cmp)} entries) path
+found_at entries key path there is finds = finds ∙ looked_up key entries ∙ ap (get (from_entries {R = slice_cmp (slice_cmp nat_cmp)} entries)) is
+
+same : (m n : Namespace) → ((path : List (List ℕ)) → get m path ≡ get n path) → m ≡ n
+same m n alike = same_map path_cmp_total path_cmp-IsAntisymmetric m n alike
+
+-- Entries that are found alike are the same names.
+pub same_names : (old new : Entries) → ((path : List (List ℕ)) → lookup (same_path path) new ≡ lookup (same_path path) old)
+    → from_entries {R = slice_cmp (slice_cmp nat_cmp)} new ≡ from_entries old
+same_names old new alike = same _ _ (λ path. sym (looked_up path new) ∙ alike path ∙ looked_up path old)
+
+-- An entry put into a table is put into its names.
+pub put_in : (old new : Entries) (at : List (List ℕ)) (entry : Entry)
+    → ((path : List (List ℕ)) → lookup (same_path path) new ≡ cond (same_path at path) (Some entry) (lookup (same_path path) old))
+    → from_entries {R = slice_cmp (slice_cmp nat_cmp)} new ≡ insert (from_entries old) at entry
+put_in old new at entry puts = same _ _ (λ path.
+    sym (looked_up path new) ∙ puts path
+    ∙ ap (λ b. cond b (Some entry) (lookup (same_path path) old)) ((eq_by_cmp_equiv path_cmp_total).symm at path)
+    ∙ ap (cond (same_path path at) (Some entry)) (looked_up path old)
+    ∙ sym (get-insert path_cmp_total (from_entries old) at entry path))
+
+-- What a call that succeeds ensures
+pub as_it_succeeds : {T E P : Type 0} (result : Result T E) → IsOk result → OnOk result P → P
+as_it_succeeds (Ok value) ok ensured = ensured
+as_it_succeeds (Err error) ok ensured = let told : false ≡ true = ok in cc
+
+-- The entries outside of a top are the names that its drop leaves.
+pub left_by_drop : (old new : Entries) (top : List (List ℕ))
+    → new ≡ filter (λ e. not (is_within top e.0)) old
+    → from_entries {R = slice_cmp (slice_cmp nat_cmp)} new ≡ step (Drop top) (from_entries old)
+left_by_drop old new top left = same _ _ (λ path.
+    sym (looked_up path new)
+    ∙ ap (lookup (same_path path)) left
+    ∙ lookup-filter-keys (same_path path) (λ other. not (is_within top other)) (not (is_within top path))
+        (λ other tied. ap (λ p. not (is_within top p)) (sym (same_path-exact path other tied))) old
+    ∙ ap (λ o. cond (not (is_within top path)) o None) (looked_up path old)
+    ∙ sym (drop_says_of top path (from_entries old)))
+
+-- No names are kept.
+pub none_kept : (entries : Entries) → entries ≡ [] → AreKept (from_entries entries)
+none_kept entries none = record {
+  each = λ path entry there.
+      let is : None ≡ Some entry = sym (get-empty _ path) ∙ ap (λ (e : Entries). get {R = slice_cmp (slice_cmp nat_cmp)} (from_entries e) path) (sym none) ∙ there in cc;
+}
 
 some_same : (a b : Entry) → Some a ≡ Some b → a ≡ b
 some_same a b e = cc
 
-step_keeps : (change : Change) (names : Namespace) → IsKept change → KeepsKept names → KeepsKept (step change names)
-step_keeps (Put at entry) names kept had = record {
+pub put_keeps : (at : List (List ℕ)) (entry : Entry) (names : Namespace) → IsKept (Put at entry) → AreKept names → AreKept (step (Put at entry) names)
+put_keeps at entry names kept had = record {
   each = λ path found there.
       elim (cases_path path at) [
         | inl same ↦
@@ -102,28 +148,12 @@ step_keeps (Put at entry) names kept had = record {
         | inr other ↦ had.each path found (sym (put_is_silent at path entry other.1 names) ∙ there)
       ];
 }
-step_keeps (Drop top) names kept had = record {
+
+pub drop_keeps : (top : List (List ℕ)) (names : Namespace) → AreKept names → AreKept (step (Drop top) names)
+drop_keeps top names had = record {
   each = λ path found there.
       elim (cases_Bool (is_within top path)) [
         | inl within ↦ let gone : None ≡ Some found = sym (drop_says top path (sym within) names) ∙ there in cc
         | inr apart ↦ had.each path found (sym (drop_is_silent top path (sym apart) names) ∙ there)
       ];
 }
-
-changes_keep : (changes : List Change) (names : Namespace) → All IsKept changes → KeepsKept names → KeepsKept (after_changes changes names)
-changes_keep [] names kept had = had
-changes_keep (change ∷ changes) names kept had =
-    changes_keep changes (step change names) (All-tail IsKept change changes kept) (step_keeps change names (All-head IsKept change changes kept) had)
-
--- What a kept list leaves at a path is valid, and the path isn't the root.
-pub left_is_kept : (changes items : List Change) (path : List (List ℕ)) (entry : Entry)
-    → All IsKept changes → items ≡ changes → Some entry ≡ get (after_changes items empty) path → (path ≢ []) × IsValid entry
-left_is_kept changes items path entry kept same found =
-    (changes_keep changes empty kept (record { each = λ p e there. let none : None ≡ Some e = sym (get-empty _ p) ∙ there in cc })).each path entry
-    (ap (λ list. get (after_changes list empty) path) (sym same) ∙ sym found)
-
--- No changes leave nothing at a path.
-pub nothing_left : (older changes : List Change) (path : List (List ℕ)) → length older ≡ 0
-    → get (after_changes older empty) path ≡ get (after_changes changes empty) path → None ≡ get (after_changes changes empty) path
-nothing_left older changes path none same =
-    sym (get-empty _ path) ∙ ap (λ list. get (after_changes list empty) path) (sym (nil_from_length older none)) ∙ same

@@ -19,9 +19,9 @@ use Rattle.meta_log.specs.declared.place.Place.{Place}
 use Rattle.meta_log.proofs.RecordLists.{ReadAs-unique}
 use Rattle.meta_log.proofs.RecordPlaces.{ReadAs-append, start_lies}
 use Rattle.meta_log.proofs.Unique.{text_unique}
-use Rattle.weed.specs.NameList.{names_of}
+use Rattle.weed.specs.NameTable.{names_of}
 use Rattle.weed.specs.Replay.{Takes, AreUnreadable, HoldsTaken, HoldsNames}
-use Rattle.weed.specs.declared.name_list.NameList.{NameList}
+use Rattle.weed.specs.declared.name_table.NameTable.{NameTable}
 
 -- What two lists of records leave
 changes_of_both : (old new : List Record) → changes_of (old ++ new) ≡ changes_of old ++ changes_of new
@@ -96,7 +96,7 @@ left_behind room others =
     omega (arith, whole, length-append (take room others) (drop room others))
 
 -- Before the first page nothing is taken.
-pub none_taken : (told : Option Files) (log : MetaLog) (names : NameList) (place : Place) (left : ℕ) → (records : List Record) × HoldsRecords told log records
+pub none_taken : (told : Option Files) (log : MetaLog) (names : NameTable) (place : Place) (left : ℕ) → (records : List Record) × HoldsRecords told log records
     → names_of names ≡ empty → place ≡ place_behind [] → left ≡ (front_of log).count → HoldsTaken told log names place left
 none_taken None log names place left held none begins count = tt
 none_taken (Some files) log names place left held none begins count =
@@ -109,12 +109,12 @@ none_taken (Some files) log names place left held none begins count =
     }
 
 -- What is taken keeps its place.
-pub taken_keeps : (told : Option Files) (log : MetaLog) (names : NameList) (place : Place) (left : ℕ) → HoldsTaken told log names place left → KeepsPlace told log place
+pub taken_keeps : (told : Option Files) (log : MetaLog) (names : NameTable) (place : Place) (left : ℕ) → HoldsTaken told log names place left → KeepsPlace told log place
 taken_keeps None log names place left taken = ([], [], tt)
 taken_keeps (Some files) log names place left taken = (taken.taken, taken.others, taken.lies)
 
 -- With a page that was taken, more records are taken.
-pub more_taken : (told : Option Files) (log : MetaLog) (old new : NameList) (place next : Place) (left room : ℕ) (texts : List (List ℕ)) → HoldsTaken told log old place left
+pub more_taken : (told : Option Files) (log : MetaLog) (old new : NameTable) (place next : Place) (left room : ℕ) (texts : List (List ℕ)) → HoldsTaken told log old place left
     → AreNext told log place room texts next → Takes texts (names_of old) (names_of new) → HoldsTaken told log new next (left - length texts)
 more_taken None log old new place next left room texts taken is takes = tt
 more_taken (Some files) log old new place next left room texts taken is takes =
@@ -134,7 +134,7 @@ more_taken (Some files) log old new place next left room texts taken is takes =
     }
 
 -- Where none is left, all are.
-pub all_taken : (told : Option Files) (log : MetaLog) (names : NameList) (place : Place) (left : ℕ) → left ≡ 0 → HoldsTaken told log names place left → HoldsNames told log names
+pub all_taken : (told : Option Files) (log : MetaLog) (names : NameTable) (place : Place) (left : ℕ) → left ≡ 0 → HoldsTaken told log names place left → HoldsNames told log names
 all_taken None log names place left none taken = tt
 all_taken (Some files) log names place left none taken = λ records kept.
     let nothing = nil_from_length taken.others (sym taken.left_is ∙ none) in
@@ -142,7 +142,7 @@ all_taken (Some files) log names place left none taken = λ records kept.
     taken.names_are ∙ ap fold (sym whole ∙ records_unique files log (taken.taken ++ taken.others) records taken.lies.kept kept)
 
 -- Only a disk that tells nothing gives a page with nothing, where records are left, or with other texts.
-pub untold_empty : (told : Option Files) (log : MetaLog) (names : NameList) (place next : Place) (left room : ℕ) (texts : List (List ℕ)) → 0 < left → 0 < room → HoldsTaken told log names place left
+pub untold_empty : (told : Option Files) (log : MetaLog) (names : NameTable) (place next : Place) (left room : ℕ) (texts : List (List ℕ)) → 0 < left → 0 < room → HoldsTaken told log names place left
     → AreNext told log place room texts next → length texts ≡ 0 → told ≡ None
 untold_empty None log names place next left room texts more wide taken is none = refl
 untold_empty (Some files) log names place next left room texts more wide taken is none =
@@ -154,7 +154,7 @@ untold_empty (Some files) log names place next left room texts more wide taken i
     filled (suc room) [] wide some none = omega (arith, some)
     filled (suc room) (x ∷ others) wide some none = omega (arith, none)
 
-pub untold_unread : (told : Option Files) (log : MetaLog) (names : NameList) (place next : Place) (left room : ℕ) (texts : List (List ℕ)) → HoldsTaken told log names place left
+pub untold_unread : (told : Option Files) (log : MetaLog) (names : NameTable) (place next : Place) (left room : ℕ) (texts : List (List ℕ)) → HoldsTaken told log names place left
     → AreNext told log place room texts next → AreUnreadable texts → told ≡ None
 untold_unread None log names place next left room texts taken is unread = refl
 untold_unread (Some files) log names place next left room texts taken is unread = absurd (unread (take room taken.others) (is taken.taken taken.others taken.lies).1)

@@ -6,7 +6,7 @@ use Rattle.name_core.specs.Log.{fold}
 use Rattle.name_core.specs.Plan.{Planned, Recorded, Nothing, Refused}
 use Rattle.meta_log.specs.Kept.{IsKept, IsRecordLog}
 use Rattle.meta_log.specs.declared.meta_log.MetaLog.{MetaLog}
-use Rattle.weed.specs.NameList.{names_of}
+use Rattle.weed.specs.NameTable.{names_of}
 use Rattle.weed.specs.declared.plain_filer.PlainFiler.{PlainFiler}
 use Rattle.weed.specs.declared.plain_filer.MakeFault.{MakeFault}
 use Rattle.weed.specs.declared.plain_filer.MakeFault.TheVariants as fault

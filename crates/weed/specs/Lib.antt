@@ -7,8 +7,8 @@ pub mod Reading
 pub mod HeadEnd
 pub mod Inbox
 pub mod Span
-pub mod Said
-pub mod NameList
+pub mod KeptNames
+pub mod NameTable
 pub mod Settling
 pub mod Handed
 pub mod Filer

@@ -9,8 +9,8 @@ use Rattle.meta_log.specs.Kept.{IsKept}
 use Rattle.meta_log.specs.RecordPlaces.{LiesBetween}
 use Rattle.meta_log.specs.declared.meta_log.MetaLog.{MetaLog}
 use Rattle.meta_log.specs.declared.place.Place.{Place}
-use Rattle.weed.specs.NameList.{names_of}
-use Rattle.weed.specs.declared.name_list.NameList.{NameList}
+use Rattle.weed.specs.NameTable.{names_of}
+use Rattle.weed.specs.declared.name_table.NameTable.{NameTable}
 
 -- The texts read as records, whose changes lead from names to others.
 pub record Takes (texts : List (List ℕ)) (old new : Namespace) : Type 0 where
@@ -23,7 +23,7 @@ abbrev pub AreUnreadable : List (List ℕ) → Type 0
 AreUnreadable texts = (records : List Record) → ¬ ReadAs texts records
 
 -- The log's records up to the place are taken, and behind it are so many more.
-pub record IsTaken (files : Files) (log : MetaLog) (names : NameList) (place : Place) (left : ℕ) : Type 0 where
+pub record IsTaken (files : Files) (log : MetaLog) (names : NameTable) (place : Place) (left : ℕ) : Type 0 where
   pub taken : List Record
   pub others : List Record
   pub lies : LiesBetween files log place taken others
@@ -31,9 +31,9 @@ pub record IsTaken (files : Files) (log : MetaLog) (names : NameList) (place : P
   pub left_is : left ≡ length others
 
 -- Where the disk is told, it is so.
-abbrev pub HoldsTaken : Option Files → MetaLog → NameList → Place → ℕ → Type 0
+abbrev pub HoldsTaken : Option Files → MetaLog → NameTable → Place → ℕ → Type 0
 HoldsTaken told log names place left = IfSome told (λ files. IsTaken files log names place left)
 
 -- Where it is told, all records are taken.
-abbrev pub HoldsNames : Option Files → MetaLog → NameList → Type 0
+abbrev pub HoldsNames : Option Files → MetaLog → NameTable → Type 0
 HoldsNames told log names = IfSome told (λ files. (records : List Record) → IsKept files log records → names_of names ≡ fold records)

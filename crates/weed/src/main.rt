@@ -4,7 +4,8 @@
 mod answer;
 mod exit;
 mod inbox;
-mod name_list;
+mod name_table;
+mod path_key;
 mod plain_filer;
 mod replay;
 mod reply;

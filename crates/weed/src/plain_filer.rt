@@ -4,7 +4,7 @@ ghost use Rattle.weed_base.specs.Files.{BothTold, Files};
 ghost use Rattle.name_core.specs.declared.change.Record.{Record};
 ghost use Rattle.name_core.specs.RecordText.{record_text, CanBeWritten};
 
-use crate::name_list::NameList;
+use crate::name_table::NameTable;
 use crate::replay::replay;
 use meta_log::{GateText, LogFault, MetaLog};
 use name_core::{Command, PlanFault, Record, Refusal, plan};
@@ -47,7 +47,7 @@ impl From<Failed> for MakeFault {
 #[derive(Debug, Drop)]
 pub struct PlainFiler {
     log: MetaLog,
-    names: NameList,
+    names: NameTable,
 }
 
 impl PlainFiler {

@@ -8,10 +8,10 @@ ghost use Rattle.meta_log.specs.Kept.{HoldsRecords};
 ghost use Rattle.meta_log.specs.Records.{ReadsAs, IsNoRecord};
 ghost use Rattle.meta_log.specs.LogText.{segment_name};
 ghost use Rattle.meta_log.specs.declared.stem.Stem.TheVariants.{Log};
-ghost use Rattle.weed.specs.NameList.{names_of};
+ghost use Rattle.weed.specs.NameTable.{names_of};
 ghost use Rattle.weed.specs.Replay.{Takes, AreUnreadable, HoldsTaken, HoldsNames};
 
-use crate::name_list::NameList;
+use crate::name_table::NameTable;
 use meta_log::{LogFault, MetaLog, Place};
 use name_core::{Record, RecordFault};
 use std::alloc::{AllocError, Global};
@@ -28,7 +28,7 @@ struct Rest {
 }
 
 /// The names that the records of a log leave.
-pub fn replay<D: Disk>(alloc: Global, disk: &mut D, log: &MetaLog) -> Result<NameList, LogFault>
+pub fn replay<D: Disk>(alloc: Global, disk: &mut D, log: &MetaLog) -> Result<NameTable, LogFault>
     requires { (records : List Record) × HoldsRecords (D.files disk.old) log.now records }
     ensures names { IfOk result (HoldsNames (D.files disk.new) log.now) }
     ensures damaged { IfErr result (IfDamaged (λ _ _. D.files disk.old ≡ None)) }
@@ -39,7 +39,7 @@ pub fn replay<D: Disk>(alloc: Global, disk: &mut D, log: &MetaLog) -> Result<Nam
     ensures sent { (D.sent disk.new ≡ D.sent disk.old) × (D.send_faults disk.new ≡ D.send_faults disk.old) }
     ensures attachment { D.attachment disk.new ≡ D.attachment disk.old }
 {
-    let mut names = NameList::new(alloc);
+    let mut names = NameTable::new(alloc);
     let mut rest = Rest {
         place: log.start(),
         count: log.front().count,
@@ -55,7 +55,7 @@ fn take_page<D: Disk>(
     alloc: Global,
     disk: &mut D,
     log: &MetaLog,
-    names: &mut NameList,
+    names: &mut NameTable,
     rest: Rest,
 ) -> Result<Rest, LogFault>
     requires left { 0 < rest.count }
@@ -92,7 +92,7 @@ fn unreadable() -> LogFault
 }
 
 /// Takes the records of texts, and answers whether all of the texts are records'.
-fn take_texts(alloc: Global, names: &mut NameList, texts: &[LogText]) -> Result<bool, AllocError>
+fn take_texts(alloc: Global, names: &mut NameTable, texts: &[LogText]) -> Result<bool, AllocError>
     ensures { IfOk result (λ taken. MatchBool taken
         (Takes texts.now (names_of names.old) (names_of names.new))
         (AreUnreadable texts.now)) }
@@ -106,7 +106,7 @@ fn take_texts(alloc: Global, names: &mut NameList, texts: &[LogText]) -> Result<
 }
 
 /// The same of one text.
-fn take_text(alloc: Global, names: &mut NameList, text: &[u8]) -> Result<bool, AllocError>
+fn take_text(alloc: Global, names: &mut NameTable, text: &[u8]) -> Result<bool, AllocError>
     ensures { IfOk result (λ taken. MatchBool taken
         (Takes (text.now ∷ []) (names_of names.old) (names_of names.new))
         (IsNoRecord text.now)) }

@@ -1,6 +1,6 @@
 use Rattle.std.proofs.Common.{◌≡◌, ◌-◌, List, ℕ, length, sym, ap, ◌∙◌, subst, arith}
 use Rattle.std.proofs.lemmas.Bool.Decides.{nat_tests}
-use Rattle.weed.specs.NameList.{names_of}
+use Rattle.weed.specs.NameTable.{names_of}
 use Rattle.weed.specs.Replay.{Takes, AreUnreadable, HoldsTaken}
 use Rattle.weed.proofs.ReplayLemmas.{taken_keeps, more_taken, untold_empty, untold_unread}
 use Rattle.weed.proofs.replay.take_page.Goals.{then-is_empty-via-then-is_empty, then-is_empty-via-else-is_empty+in_ok-take_texts+then-not-branch}

@@ -2,7 +2,7 @@ use Rattle.std.proofs.Common.{◌∙◌, ap}
 use Rattle.name_core.specs.Namespace.{after_changes}
 use Rattle.name_core.specs.RecordText.{CanBeWritten}
 use Rattle.meta_log.specs.Records.{ReadsAs}
-use Rattle.weed.specs.NameList.{names_of}
+use Rattle.weed.specs.NameTable.{names_of}
 use Rattle.weed.proofs.ReplayLemmas.{takes_one}
 use Rattle.weed.proofs.replay.take_text.Goals as goal
 

@@ -1,4 +1,4 @@
-use Rattle.weed.specs.NameList.{names_of}
+use Rattle.weed.specs.NameTable.{names_of}
 use Rattle.weed.proofs.ReplayLemmas.{takes_step, takes_ends}
 use Rattle.weed.proofs.replay.take_texts.Goals as goal
 

@@ -1,5 +1,5 @@
 use Rattle.std.proofs.Common.{take}
-use Rattle.weed.specs.NameList.{names_of}
+use Rattle.weed.specs.NameTable.{names_of}
 use Rattle.weed.specs.Replay.{Takes}
 use Rattle.weed.proofs.replay.take_texts.Given as goal
 

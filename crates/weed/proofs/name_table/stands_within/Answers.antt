@@ -1,6 +1,6 @@
 use Rattle.std.proofs.Common.{true, cond, ap, sym, ◌∙◌}
 use Rattle.weed.proofs.NameLemmas.{within_is}
-use Rattle.weed.proofs.name_list.stands_within.Goals as goal
+use Rattle.weed.proofs.name_table.stands_within.Goals as goal
 
 pub returns-then-is_top : goal.returns-then-is_top
 returns-then-is_top c =
