@@ -124,7 +124,7 @@ left_by_drop old new top left = same _ _ (λ path.
     sym (looked_up path new)
     ∙ ap (lookup (same_path path)) left
     ∙ lookup-filter-keys (same_path path) (λ other. not (is_within top other)) (not (is_within top path))
-        (λ other tied. ap (λ p. not (is_within top p)) (sym (same_path-exact path other tied))) old
+    (λ other tied. ap (λ p. not (is_within top p)) (sym (same_path-exact path other tied))) old
     ∙ ap (λ o. cond (not (is_within top path)) o None) (looked_up path old)
     ∙ sym (drop_says_of top path (from_entries old)))
 

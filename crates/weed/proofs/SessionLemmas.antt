@@ -19,6 +19,7 @@ use Rattle.weed.specs.Reply.{moments_after}
 use Rattle.weed.specs.Replied.{Gives}
 use Rattle.weed.specs.Session.{State, Requests, Answers, SendsUnlessCut, Rests, Stands, HasLeft, memory_answer, disk_answer, not_yet_answer}
 use Rattle.weed.specs.Tells.{Tells, Asking, Sends, Leads}
+use Rattle.weed.specs.declared.exit.Exit.{Exit}
 use Rattle.weed.specs.declared.exit.Exit.TheVariants as exit
 use Rattle.weed.specs.declared.plain_filer.PlainFiler.{PlainFiler}
 use Rattle.weed.specs.declared.reply.Reply.{Reply}
@@ -27,6 +28,10 @@ use Rattle.weed.specs.declared.reply.ReplyFault.TheVariants.{DiskFault, Memory}
 use Rattle.weed.specs.declared.session.Session.{Session}
 use Rattle.weed.specs.declared.session.Turned.{Turned}
 use Rattle.weed.specs.declared.session.Turned.TheVariants.{Open, Ended}
+
+-- A session that goes on hasn't ended.
+pub open_is_no_end : (end : Exit) → ¬ (Open ≡ Ended end)
+open_is_no_end end same = cc
 
 -- A disk that holds a filer is a log of its records.
 kept_is_log : (files : Files) (meta : MetaLog) (records : List Record) → IsKept files meta records → IsRecordLog files records

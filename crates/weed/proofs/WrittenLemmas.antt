@@ -1,10 +1,11 @@
 -- One write after another.
-use Rattle.std.proofs.Common.{◌≡◌, ℕ, ◌+◌, min, List, ◌++◌, length, take, drop, Option, Some, None, sym, ap, subst, ◌∙◌, arith, append_assoc}
+use Rattle.std.proofs.Common.{◌≡◌, ℕ, ◌+◌, min, List, ◌++◌, length, take, drop, Option, Some, None, Result, Ok, Err, sym, ap, subst, ◌∙◌, arith, append_assoc}
 use Rattle.std.proofs.lemmas.List.{take_min, take-append-le}
 use Rattle.std.proofs.Math.Seq.{take-append-add}
 use Rattle.std.specs.Option.{option_map}
 use Rattle.weed.proofs.ListLemmas.{take-add}
-use Rattle.weed_base.specs.Told.{Appends}
+use Rattle.std.specs.Prelude.{OnErr}
+use Rattle.weed_base.specs.Told.{Appends, Rose, HasCause}
 use Rattle.weed.specs.Written.{AppendsFront}
 
 -- the bytes of one write behind those of another
@@ -26,3 +27,8 @@ front_behind old mid new xs ys zs first (count, second) =
     let cut : take (length xs + n) (xs ++ (ys ++ zs)) ≡ xs ++ take count ys =
     take-append-add xs (ys ++ zs) n ∙ ap (λ rest. xs ++ rest) (take-append-le n ys zs (omega arith) ∙ take_min count ys) in
     (length xs + n, subst (Appends old new) (sym cut) (appends_both old mid new xs (take count ys) first second))
+
+-- the cause of what failed
+pub failed_in : {T E : Type 0} (before now : ℕ) (result : Result T E) → HasCause before now result → OnErr result (Rose before now)
+failed_in before now (Ok value) cause = tt
+failed_in before now (Err fault) cause = cause

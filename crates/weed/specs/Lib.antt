@@ -1,5 +1,6 @@
 pub mod Words
 pub mod Written
+pub mod Causes
 pub mod Exit
 pub mod Answer
 pub mod Request

@@ -79,7 +79,8 @@ impl NameTable {
         ensures names { names_of self.new ≡ step (Drop top.now) (names_of self.old) }
         ensures spare { spare_of self.old ≤ spare_of self.new }
     {
-        self.entries.retain(|key, _| !stands_within(key.path(), top));
+        self.entries
+            .retain(|key, _| !stands_within(key.path(), top));
     }
 }
 

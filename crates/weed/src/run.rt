@@ -1,4 +1,4 @@
-ghost use Rattle.std.specs.Prelude.{◌≡◌, ◌≢◌, ◌↔◌, ◌≤◌, List, ℕ, length, Ok, Err, Some, IfOk, IfErr, IfSome, IsErrOf, MatchResult};
+ghost use Rattle.std.specs.Prelude.{◌≡◌, ◌≢◌, ◌↔◌, ◌≤◌, ◌⊎◌, List, ℕ, length, Ok, Err, Some, IfOk, IfErr, IfSome, IsErrOf, MatchResult};
 ghost use Rattle.weed_base.specs.Told.{Rose, IsCauseOf};
 ghost use Rattle.weed_base.specs.Attachment.{Attaches, MayAttach, attached_to};
 ghost use Rattle.weed_base.specs.Sent.{bytes_sent};
@@ -10,6 +10,7 @@ ghost use Rattle.meta_log.specs.Kept.{HoldsRecordLog, IsRecordDamage, IsRecordLo
 ghost use Rattle.meta_log.specs.Making.{LeavesOthers};
 ghost use Rattle.meta_log.specs.declared.stem.Stem.TheVariants.{Log};
 ghost use Rattle.weed.specs.Words.{order_of};
+ghost use Rattle.weed.specs.Causes.{IsCauseBeside};
 ghost use Rattle.weed.specs.Crash.{Survives};
 ghost use Rattle.weed.specs.Filer.{HoldsFiler};
 ghost use Rattle.weed.specs.Session.{State, Stands, Turns, most_turns};
@@ -88,9 +89,13 @@ pub fn weed<S: Source, H: Host, C: Clock>(
     ensures untouched { (place : ℕ) → order_of words.now ≡ Err place → result.1 ≡ world }
     ensures damaged { IfDamagedExit (λ file at. IfSome (H.files world.host) (λ files. IsRecordDamage files file at) × (H.files result.1.host ≡ H.files world.host)) result.0 }
     ensures own { (files : Files) → H.files world.host ≡ Some files → IsOwn (H.images world.host) → IfDamagedExit (λ _ _. ⊥) result.0 }
-    ensures disk { result.0 ≡ Exit.DiskFault → Rose (H.faults world.host) (H.faults result.1.host) }
-    ensures read { result.0 ≡ Exit.ReadFault → Rose (S.faults world.source) (S.faults result.1.source) }
-    ensures write { result.0 ≡ Exit.WriteFault → Rose (H.send_faults world.host) (H.send_faults result.1.host) }
+    ensures disk { IsCauseOf (H.faults world.host) (H.faults result.1.host) (result.0 ≡ Exit.DiskFault) }
+    ensures read { IsCauseOf (S.faults world.source) (S.faults result.1.source) (result.0 ≡ Exit.ReadFault) }
+    ensures write { IsCauseBeside (H.send_faults world.host) (H.send_faults result.1.host) (result.0 ≡ Exit.WriteFault) (result.0 ≡ Exit.DiskFault) }
+
+    // The host is turned to the directory of the words, once, or the run ends before it reads or sends anything.
+    ensures attached { (dir : List ℕ) → order_of words.now ≡ Ok dir → (H.attachment result.1.host ≡ attached_to dir (H.attachment world.host))
+        ⊎ ((H.attachment result.1.host ≡ H.attachment world.host) × EndsUnread result.0 (H.sent world.host) (H.sent result.1.host) (S.left world.source) (S.left result.1.source)) }
 {
     let mut world = world;
     match read_words(words) {
@@ -117,9 +122,11 @@ fn filer_once<S: Source, H: Host, C: Clock>(
     ensures good_words { (place : ℕ) → result ≡ Exit.BadWords place → ⊥ }
     ensures damaged { IfDamagedExit (λ file at. IfSome (H.files world.old.host) (λ files. IsRecordDamage files file at) × (H.files world.new.host ≡ H.files world.old.host)) result }
     ensures own { (files : Files) → H.files world.old.host ≡ Some files → IsOwn (H.images world.old.host) → IfDamagedExit (λ _ _. ⊥) result }
-    ensures disk { result ≡ Exit.DiskFault → Rose (H.faults world.old.host) (H.faults world.new.host) }
-    ensures read { result ≡ Exit.ReadFault → Rose (S.faults world.old.source) (S.faults world.new.source) }
-    ensures write { result ≡ Exit.WriteFault → Rose (H.send_faults world.old.host) (H.send_faults world.new.host) }
+    ensures disk { IsCauseOf (H.faults world.old.host) (H.faults world.new.host) (result ≡ Exit.DiskFault) }
+    ensures read { IsCauseOf (S.faults world.old.source) (S.faults world.new.source) (result ≡ Exit.ReadFault) }
+    ensures write { IsCauseBeside (H.send_faults world.old.host) (H.send_faults world.new.host) (result ≡ Exit.WriteFault) (result ≡ Exit.DiskFault) }
+    ensures attached { (H.attachment world.new.host ≡ attached_to dir.now (H.attachment world.old.host))
+        ⊎ ((H.attachment world.new.host ≡ H.attachment world.old.host) × EndsUnread result (H.sent world.old.host) (H.sent world.new.host) (S.left world.old.source) (S.left world.new.source)) }
 {
     match begin(alloc, dir, &mut world.host) {
         Ok(mut session) => run(alloc, &mut session, world),

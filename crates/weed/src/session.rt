@@ -1,9 +1,10 @@
 ghost use Rattle.std.specs.Prelude.{◌≡◌, ◌≤◌, List, ℕ};
-ghost use Rattle.weed_base.specs.Told.{Rose};
+ghost use Rattle.weed_base.specs.Told.{Rose, IsCauseOf};
 ghost use Rattle.weed_base.specs.Images.{StandsStill};
 ghost use Rattle.weed_base.specs.Sent.{bytes_sent};
 ghost use Rattle.name_core.specs.declared.change.Record.{Record};
 ghost use Rattle.meta_log.specs.Images.{ImagesKeep};
+ghost use Rattle.weed.specs.Causes.{IsCauseBeside};
 ghost use Rattle.weed.specs.Crash.{Withstands};
 ghost use Rattle.weed.specs.Filer.{HoldsFiler};
 ghost use Rattle.weed.specs.Handed.{SendsAt};
@@ -38,10 +39,10 @@ fn send_answer<H: Host>(host: &mut H, answer: &[u8], closes: bool) -> Turned
     ensures sends { Sends answer.now closes (bytes_sent (H.sent host.old)) (bytes_sent (H.sent host.new)) result }
     ensures pieces { SendsAt (H.tick host.new) (H.sent host.old) (H.sent host.new) }
     ensures still { StandsStill (H.tick host.old) (H.tick host.new) (H.image_since host.old) (H.image_since host.new) (H.images host.old) (H.images host.new) }
-    ensures later { H.send_faults host.old ≤ H.send_faults host.new }
-    ensures cause { result ≡ Turned.Ended Exit.WriteFault → Rose (H.send_faults host.old) (H.send_faults host.new) }
+    ensures cause { IsCauseOf (H.send_faults host.old) (H.send_faults host.new) (result ≡ Turned.Ended Exit.WriteFault) }
     ensures files { H.files host.new ≡ H.files host.old }
     ensures faults { H.faults host.new ≡ H.faults host.old }
+    ensures attachment { H.attachment host.new ≡ H.attachment host.old }
     ensures kind { IsTurnEnd result }
 {
     match send_all(host, answer) {
@@ -69,10 +70,10 @@ pub fn run<S: Source, H: Host, C: Clock>(
     ensures ends { (first : State) → Tells (S.left world.old.source) (bytes_sent (H.sent world.old.host)) (H.files world.old.host) (C.moments world.old.clock) session.old first
         → (path : List State) × (last : State) × Stands (S.left world.new.source) (bytes_sent (H.sent world.new.host)) (H.files world.new.host) (C.moments world.new.clock) last × Ends (Rose (H.send_faults world.old.host) (H.send_faults world.new.host)) result first path last
         × (ImagesKeep (H.images world.old.host) first.log → Withstands H.tick H.images H.image_since H.sent world.old.host world.new.host result first path last) }
-    ensures disk { result ≡ Exit.DiskFault → Rose (H.faults world.old.host) (H.faults world.new.host) }
-    ensures read { result ≡ Exit.ReadFault → Rose (S.faults world.old.source) (S.faults world.new.source) }
-    ensures write { result ≡ Exit.WriteFault → Rose (H.send_faults world.old.host) (H.send_faults world.new.host) }
-    ensures disk_later { H.faults world.old.host ≤ H.faults world.new.host }
+    ensures disk { IsCauseOf (H.faults world.old.host) (H.faults world.new.host) (result ≡ Exit.DiskFault) }
+    ensures read { IsCauseOf (S.faults world.old.source) (S.faults world.new.source) (result ≡ Exit.ReadFault) }
+    ensures write { IsCauseBeside (H.send_faults world.old.host) (H.send_faults world.new.host) (result ≡ Exit.WriteFault) (result ≡ Exit.DiskFault) }
+    ensures attachment { H.attachment world.new.host ≡ H.attachment world.old.host }
     ensures kind { IsSessionEnd result }
 {
     for _turn in 0..MOST_TURNS {
@@ -96,12 +97,10 @@ fn turn<S: Source, H: Host, C: Clock>(
         (S.left world.new.source) (bytes_sent (H.sent world.new.host)) (H.files world.new.host) (C.moments world.new.clock) session.new result }
     ensures pieces { SendsAt (H.tick world.new.host) (H.sent world.old.host) (H.sent world.new.host) }
     ensures held { result ≡ Turned.Open → (records : List Record) × HoldsFiler (H.files world.new.host) session.new.filer records }
-    ensures disk { result ≡ Turned.Ended Exit.DiskFault → Rose (H.faults world.old.host) (H.faults world.new.host) }
-    ensures read { result ≡ Turned.Ended Exit.ReadFault → Rose (S.faults world.old.source) (S.faults world.new.source) }
-    ensures write { result ≡ Turned.Ended Exit.WriteFault → Rose (H.send_faults world.old.host) (H.send_faults world.new.host) }
-    ensures disk_later { H.faults world.old.host ≤ H.faults world.new.host }
-    ensures read_later { S.faults world.old.source ≤ S.faults world.new.source }
-    ensures write_later { H.send_faults world.old.host ≤ H.send_faults world.new.host }
+    ensures disk { IsCauseOf (H.faults world.old.host) (H.faults world.new.host) (result ≡ Turned.Ended Exit.DiskFault) }
+    ensures read { IsCauseOf (S.faults world.old.source) (S.faults world.new.source) (result ≡ Turned.Ended Exit.ReadFault) }
+    ensures write { IsCauseBeside (H.send_faults world.old.host) (H.send_faults world.new.host) (result ≡ Turned.Ended Exit.WriteFault) (result ≡ Turned.Ended Exit.DiskFault) }
+    ensures attachment { H.attachment world.new.host ≡ H.attachment world.old.host }
     ensures kind { IsTurnEnd result }
 {
     match next_head(&mut world.source, &mut session.inbox) {
@@ -124,12 +123,11 @@ fn answer_request<S: Source, H: Host, C: Clock>(
         (S.left world.new.source) (bytes_sent (H.sent world.new.host)) (H.files world.new.host) (C.moments world.new.clock) session.new result }
     ensures pieces { SendsAt (H.tick world.new.host) (H.sent world.old.host) (H.sent world.new.host) }
     ensures held { result ≡ Turned.Open → (records : List Record) × HoldsFiler (H.files world.new.host) session.new.filer records }
-    ensures disk { result ≡ Turned.Ended Exit.DiskFault → Rose (H.faults world.old.host) (H.faults world.new.host) }
+    ensures disk { IsCauseOf (H.faults world.old.host) (H.faults world.new.host) (result ≡ Turned.Ended Exit.DiskFault) }
     ensures read { result ≡ Turned.Ended Exit.ReadFault → ⊥ }
-    ensures write { result ≡ Turned.Ended Exit.WriteFault → Rose (H.send_faults world.old.host) (H.send_faults world.new.host) }
+    ensures write { IsCauseBeside (H.send_faults world.old.host) (H.send_faults world.new.host) (result ≡ Turned.Ended Exit.WriteFault) (result ≡ Turned.Ended Exit.DiskFault) }
     ensures source { world.new.source ≡ world.old.source }
-    ensures disk_later { H.faults world.old.host ≤ H.faults world.new.host }
-    ensures write_later { H.send_faults world.old.host ≤ H.send_faults world.new.host }
+    ensures attachment { H.attachment world.new.host ≡ H.attachment world.old.host }
     ensures kind { IsTurnEnd result }
 {
     let target = session.inbox.target();

@@ -14,4 +14,4 @@ returns-in-Ok-FilerOnce-clause-complete g c dir first good starts no_disk no_rea
       | inl session ↦ inl session.0
       | inr early ↦ inr early.0
     ] in
-    completes _ (g.H.Disk.files c.args.world.host) _ _ _ _ end first starts.stands.log_is ended.0 ended.1 how ran.good_words ran.damaged ran.disk ran.read ran.write no_disk no_read no_write few
+    completes _ (g.H.Disk.files c.args.world.host) _ _ _ _ end first starts.stands.log_is ended.0 ended.1 how ran.good_words ran.damaged ran.disk.failed ran.read.failed ran.write.failed no_disk no_read no_write few

@@ -4,6 +4,7 @@ use Rattle.weed_base.specs.Told.{Rose}
 use Rattle.weed_base.specs.Sent.{bytes_sent}
 use Rattle.weed.specs.Settling.{Settling, Tearing}
 use Rattle.weed.proofs.HandedLemmas.{sends_behind}
+use Rattle.weed.proofs.WrittenLemmas.{failed_in}
 use Rattle.weed.proofs.SettlingLemmas.{settles_sent, tears_sent}
 use Rattle.weed.specs.declared.reply.ReplyFault.{ReplyFault}
 use Rattle.weed.specs.declared.reply.ReplyFault.TheVariants.{DiskFault, Memory}
@@ -72,7 +73,7 @@ returns-in-Err-DiskFault-clause-leads g c old rest asking =
     (λ before after. tears_sent disk.tick disk.images disk.image_since host c.reply_to_target.new.disk c.send_all.new.host before after c.send_all.ensures.still)
     asking.filer asking.moments_are asking.sent_is (ap bytes_sent c.reply_to_target.ensures.sent.0) c.send_all.ensures.files
     (c.as_slice-in-Err-DiskFault.ensures ∙ c.args.session.now.standing.disk_fault_is)
-    c.send_all.ensures.bytes (subst (λ faults. OnErr c.send_all.result (Rose faults (disk.send_faults c.send_all.new.host))) c.reply_to_target.ensures.sent.1 c.send_all.ensures.cause.failed) asking.left_is
+    c.send_all.ensures.bytes (subst (λ faults. OnErr c.send_all.result (Rose faults (disk.send_faults c.send_all.new.host))) c.reply_to_target.ensures.sent.1 (failed_in _ _ c.send_all.result c.send_all.ensures.cause)) asking.left_is
 
 pub returns-in-Ok-clause-pieces : goal.returns-in-Ok-clause-pieces
 returns-in-Ok-clause-pieces g c =

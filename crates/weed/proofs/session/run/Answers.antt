@@ -3,7 +3,8 @@ use Rattle.std.proofs.lemmas.List.{length_push}
 use Rattle.weed_base.specs.Told.{Rose}
 use Rattle.weed_base.specs.Sent.{bytes_sent}
 use Rattle.weed.specs.Session.{State, Turn, last_of, most_turns}
-use Rattle.weed.proofs.SessionLemmas.{rests}
+use Rattle.weed.specs.declared.exit.Exit.TheVariants.{DiskFault, ReadFault, WriteFault}
+use Rattle.weed.proofs.SessionLemmas.{rests, open_is_no_end}
 use Rattle.weed.specs.Tells.{Tells}
 use Rattle.weed.proofs.CrashLemmas.{keeping_begins, keeping_more, last_of-push, steps-push, ends_after, spent_ends}
 use Rattle.weed.proofs.session.run.Goals as goal
@@ -14,9 +15,10 @@ loop-turn-init g c =
     record {
       held = c.requires;
       led = λ first tells. ([], tells, tt, refl, λ keep. keeping_begins disk.tick disk.images disk.image_since disk.sent g.met.H.Disk.only_now c.args.world.now.host first keep);
-      disk_later = omega arith;
-      read_later = omega arith;
-      write_later = omega arith;
+      faults = refl;
+      read_faults = refl;
+      send_faults = refl;
+      attachment = refl;
     }
 
 pub loop-turn-preserved : goal.loop-turn-preserved
@@ -36,9 +38,10 @@ loop-turn-preserved g c =
             length_push before.0 turn.0 ∙ ap (λ n. n + 1) before.3,
             λ keep. keeping_more disk.tick disk.images disk.image_since disk.sent g.met.H.Disk.only_now start mid now first before.0 (before.4 keep) turn.0 turn.2 turn.3 c.in-Open.ensures.pieces before.1.sent_is,
           );
-      disk_later = omega (arith, c.loop-turn.invariant.disk_later, c.in-Open.ensures.disk_later);
-      read_later = omega (arith, c.loop-turn.invariant.read_later, c.in-Open.ensures.read_later);
-      write_later = omega (arith, c.loop-turn.invariant.write_later, c.in-Open.ensures.write_later);
+      faults = c.in-Open.ensures.disk.quiet (open_is_no_end DiskFault) ∙ c.loop-turn.invariant.faults;
+      read_faults = c.in-Open.ensures.read.quiet (open_is_no_end ReadFault) ∙ c.loop-turn.invariant.read_faults;
+      send_faults = c.in-Open.ensures.write.quiet (open_is_no_end WriteFault) (open_is_no_end DiskFault) ∙ c.loop-turn.invariant.send_faults;
+      attachment = c.in-Open.ensures.attachment ∙ c.loop-turn.invariant.attachment;
     }
 
 pub returns-in-Ended-clause-ends : goal.returns-in-Ended-clause-ends
@@ -49,7 +52,7 @@ returns-in-Ended-clause-ends g c first tells =
     let start = disk.send_faults c.args.world.now.host in
     let mid = disk.send_faults c.loop-turn.world.host in
     let now = disk.send_faults c.turn.new.world.host in
-    ends_after (Rose mid now) (Rose start now) (λ rose. omega (arith, rose, c.loop-turn.invariant.write_later)) disk.tick disk.images disk.image_since disk.sent g.met.H.Disk.only_now g.met.H.Disk.counts_now c.args.world.now.host c.loop-turn.world.host c.turn.new.world.host c.in-Ended.exit first before.0
+    ends_after (Rose mid now) (Rose start now) (λ rose. omega (arith, rose, c.loop-turn.invariant.send_faults)) disk.tick disk.images disk.image_since disk.sent g.met.H.Disk.only_now g.met.H.Disk.counts_now c.args.world.now.host c.loop-turn.world.host c.turn.new.world.host c.in-Ended.exit first before.0
     (g.S.Source.left c.turn.new.world.source) (bytes_sent (disk.sent c.turn.new.world.host)) (disk.files c.turn.new.world.host) (g.C.Clock.moments c.turn.new.world.clock) c.turn.new.session
     before.2 few before.4 before.1.sent_is c.in-Ended.ensures.pieces (c.in-Ended.ensures.leads (last_of first before.0) before.1)
 

@@ -1,4 +1,4 @@
-use Rattle.std.proofs.Common.{◌≡◌, ◌≤◌, List, length}
+use Rattle.std.proofs.Common.{◌≡◌, List, length}
 use Rattle.weed_base.specs.Sent.{bytes_sent}
 use Rattle.name_core.specs.declared.change.Record.{Record}
 use Rattle.meta_log.specs.Images.{ImagesKeep}
@@ -17,7 +17,8 @@ invariant-loop-turn g l =
           → (path : List State) × Tells (g.S.Source.left l.world.source) (bytes_sent (disk.sent l.world.host)) (disk.files l.world.host) (g.C.Clock.moments l.world.clock) l.session (last_of first path)
           × Turns first path × (length path ≡ l._turn)
           × (ImagesKeep (disk.images l.fn.world.host) first.log → Keeping disk.tick disk.images disk.image_since disk.sent l.fn.world.host l.world.host first path);
-      disk_later : disk.faults l.fn.world.host ≤ disk.faults l.world.host;
-      read_later : g.S.Source.faults l.fn.world.source ≤ g.S.Source.faults l.world.source;
-      write_later : disk.send_faults l.fn.world.host ≤ disk.send_faults l.world.host;
+      faults : disk.faults l.world.host ≡ disk.faults l.fn.world.host;
+      read_faults : g.S.Source.faults l.world.source ≡ g.S.Source.faults l.fn.world.source;
+      send_faults : disk.send_faults l.world.host ≡ disk.send_faults l.fn.world.host;
+      attachment : disk.attachment l.world.host ≡ disk.attachment l.fn.world.host;
     }
