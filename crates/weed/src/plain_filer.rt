@@ -1,4 +1,4 @@
-ghost use Rattle.std.specs.Prelude.{◌≡◌, ◌≤◌, ◌<◌, false, List, length, Some, IfOk, IfSome, IfErr, IsErrOf};
+ghost use Rattle.std.specs.Prelude.{◌≡◌, ◌≤◌, ◌<◌, ◌+◌, false, List, length, Some, IfOk, IfSome, IfErr, IsErrOf};
 ghost use Rattle.weed_base.specs.Told.{IsCauseOf};
 ghost use Rattle.weed_base.specs.Files.{BothTold, Files};
 ghost use Rattle.name_core.specs.declared.change.Record.{Record};
@@ -92,8 +92,9 @@ impl PlainFiler {
         Ok(PlainFiler { log, names })
     }
 
-    /// Makes the directory and each missing one above it, at a moment in nanoseconds since 1970. After
-    /// `DiskFault` the log is to be opened again; after the other faults nothing is changed.
+    /// Makes the directory and each missing one above it, at a moment in nanoseconds since 1970, by four
+    /// calls of the disk at most. After `DiskFault` the log is to be opened again; after the other faults
+    /// nothing is changed.
     pub fn make_dir<D: Disk>(
         &mut self,
         alloc: Global,
@@ -111,6 +112,7 @@ impl PlainFiler {
         ensures held { ¬ (IsErrOf result MakeFault.DiskFault) → (records : List Record) × HoldsFiler (D.files disk.new) self.new records }
         ensures sent { (D.sent disk.new ≡ D.sent disk.old) × (D.send_faults disk.new ≡ D.send_faults disk.old) }
         ensures attachment { D.attachment disk.new ≡ D.attachment disk.old }
+        ensures calls { D.tick disk.new ≤ D.tick disk.old + 4 }
     {
         let command = Command::MakeDir { path };
         let last = self.log.front().time;
@@ -144,6 +146,7 @@ impl PlainFiler {
         ensures held { ¬ (IsErrOf result MakeFault.DiskFault) → (records : List Record) × HoldsFiler (D.files disk.new) self.new records }
         ensures sent { (D.sent disk.new ≡ D.sent disk.old) × (D.send_faults disk.new ≡ D.send_faults disk.old) }
         ensures attachment { D.attachment disk.new ≡ D.attachment disk.old }
+        ensures calls { D.tick disk.new ≤ D.tick disk.old + 4 }
     {
         let text = planned.write(alloc)?;
         let ready = GateText::make(alloc, text.as_slice())?;

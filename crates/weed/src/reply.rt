@@ -1,4 +1,4 @@
-ghost use Rattle.std.specs.Prelude.{◌≡◌, ◌≤◌, true, false, string_bytes, List, ℕ, Some, IfOk, IsErrOf};
+ghost use Rattle.std.specs.Prelude.{◌≡◌, ◌≤◌, ◌+◌, true, false, string_bytes, List, ℕ, Some, IfOk, IsErrOf};
 ghost use Rattle.weed_base.specs.Files.{Files};
 ghost use Rattle.weed_base.specs.Told.{IsCauseOf};
 ghost use Rattle.name_core.specs.declared.change.Record.{Record};
@@ -126,6 +126,7 @@ pub fn reply_to_target<D: Disk, C: Clock>(
     ensures cause { IsCauseOf (D.faults disk.old) (D.faults disk.new) (IsErrOf result ReplyFault.DiskFault) }
     ensures sent { (D.sent disk.new ≡ D.sent disk.old) × (D.send_faults disk.new ≡ D.send_faults disk.old) }
     ensures attachment { D.attachment disk.new ≡ D.attachment disk.old }
+    ensures calls { D.tick disk.new ≤ D.tick disk.old + 4 }
 {
     match Path::read(alloc, path_of_target(target)) {
         Ok(path) => reply_to_path(alloc, filer, disk, clock, path),
@@ -150,6 +151,7 @@ fn reply_to_path<D: Disk, C: Clock>(
     ensures cause { IsCauseOf (D.faults disk.old) (D.faults disk.new) (IsErrOf result ReplyFault.DiskFault) }
     ensures sent { (D.sent disk.new ≡ D.sent disk.old) × (D.send_faults disk.new ≡ D.send_faults disk.old) }
     ensures attachment { D.attachment disk.new ≡ D.attachment disk.old }
+    ensures calls { D.tick disk.new ≤ D.tick disk.old + 4 }
 {
     let made = created_reply(alloc, &path)?;
     let moment = clock.now();

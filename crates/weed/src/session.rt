@@ -1,4 +1,4 @@
-ghost use Rattle.std.specs.Prelude.{◌≡◌, ◌≤◌, List, ℕ};
+ghost use Rattle.std.specs.Prelude.{◌≡◌, ◌≤◌, ◌+◌, List, ℕ};
 ghost use Rattle.weed_base.specs.Told.{Rose, IsCauseOf};
 ghost use Rattle.weed_base.specs.Images.{StandsStill};
 ghost use Rattle.weed_base.specs.Sent.{bytes_sent};
@@ -101,6 +101,7 @@ fn turn<S: Source, H: Host, C: Clock>(
     ensures read { IsCauseOf (S.faults world.old.source) (S.faults world.new.source) (result ≡ Turned.Ended Exit.ReadFault) }
     ensures write { IsCauseBeside (H.send_faults world.old.host) (H.send_faults world.new.host) (result ≡ Turned.Ended Exit.WriteFault) (result ≡ Turned.Ended Exit.DiskFault) }
     ensures attachment { H.attachment world.new.host ≡ H.attachment world.old.host }
+    ensures calls { H.tick world.new.host ≤ H.tick world.old.host + 4 }
     ensures kind { IsTurnEnd result }
 {
     match next_head(&mut world.source, &mut session.inbox) {
@@ -128,6 +129,7 @@ fn answer_request<S: Source, H: Host, C: Clock>(
     ensures write { IsCauseBeside (H.send_faults world.old.host) (H.send_faults world.new.host) (result ≡ Turned.Ended Exit.WriteFault) (result ≡ Turned.Ended Exit.DiskFault) }
     ensures source { world.new.source ≡ world.old.source }
     ensures attachment { H.attachment world.new.host ≡ H.attachment world.old.host }
+    ensures calls { H.tick world.new.host ≤ H.tick world.old.host + 4 }
     ensures kind { IsTurnEnd result }
 {
     let target = session.inbox.target();
