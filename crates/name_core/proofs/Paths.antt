@@ -6,32 +6,10 @@ use Rattle.std.specs.Cmp.Lexicographic.{slice_cmp, lists_total, nat_list_cmp_tot
 use Rattle.std.specs.FinMap.{get, insert, get-insert, IsAntisymmetric, slice_cmp-IsAntisymmetric, nat_cmp-IsAntisymmetric}
 use Rattle.std.proofs.lemmas.Map.Views.{tells_apart}
 use Rattle.std.proofs.lemmas.Bool.{cases_Bool}
+pub use Rattle.weed_base.specs.PathOrder.{same_path, path_cmp_total, path_cmp-IsAntisymmetric, same_path-exact}
+pub use Rattle.weed_base.proofs.PathOrderLemmas.{same_path-refl, cases_path}
 use Rattle.name_core.specs.declared.entry.Entry.{Entry}
 use Rattle.name_core.specs.Namespace.{Namespace}
-
--- Whether two paths are one, as the order of paths tells it
-abbrev pub same_path : List (List ℕ) → List (List ℕ) → Bool
-same_path = eq_by_cmp (slice_cmp (slice_cmp nat_cmp))
-
-pub path_cmp_total : IsTotalOrder (slice_cmp (slice_cmp nat_cmp))
-path_cmp_total = lists_total nat_list_cmp_total
-
-pub path_cmp-IsAntisymmetric : IsAntisymmetric (slice_cmp (slice_cmp nat_cmp))
-path_cmp-IsAntisymmetric = slice_cmp-IsAntisymmetric (slice_cmp-IsAntisymmetric nat_cmp-IsAntisymmetric)
-
-pub same_path-refl : (p : List (List ℕ)) → same_path p p ≡ true
-same_path-refl p = (eq_by_cmp_equiv path_cmp_total).refl p
-
-pub same_path-exact : (p q : List (List ℕ)) → same_path p q ≡ true → p ≡ q
-same_path-exact p q e = tells_apart path_cmp-IsAntisymmetric p q e
-
--- Two paths are one, or they are told apart.
-pub cases_path : (p q : List (List ℕ)) → (p ≡ q) ⊎ ((same_path p q ≡ false) × (p ≢ q))
-cases_path p q =
-    elim (cases_Bool (same_path p q)) [
-      | inl same ↦ inl (same_path-exact p q same)
-      | inr other ↦ inr (other, λ e. let same : same_path p q ≡ true = subst (λ r. same_path p r ≡ true) e (same_path-refl p) in cc)
-    ]
 
 -- A path set is found, and no other path changes.
 pub get-insert_same : (names : Namespace) (path : List (List ℕ)) (entry : Entry) → get (insert names path entry) path ≡ Some entry

@@ -68,15 +68,6 @@ drop_says top path within names = drop_says_of top path names ∙ ap (λ b. cond
 drop_is_silent : (top path : List (List ℕ)) → false ≡ is_within top path → (names : Namespace) → get (step (Drop top) names) path ≡ get names path
 drop_is_silent top path apart names = drop_says_of top path names ∙ ap (λ b. cond (not b) (get names path) None) (sym apart)
 
--- Two paths are one where the order of paths tells so.
-pub same_is : (a b : List (List ℕ)) (is : Bool) → (IsTrue is ↔ (a ≡ b)) → is ≡ same_path a b
-same_is a b true told = sym (ap (same_path a) (sym (told.0 refl)) ∙ same_path-refl a)
-same_is a b false told =
-    elim (cases_path a b) [
-      | inl same ↦ let is : false ≡ true = told.1 same in cc
-      | inr apart ↦ sym apart.0
-    ]
-
 -- The entries of a table, found by their paths.
 abbrev Entries : Type 0
 Entries = List (List (List ℕ) × Entry)

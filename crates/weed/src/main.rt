@@ -5,7 +5,6 @@ mod answer;
 mod exit;
 mod inbox;
 mod name_table;
-mod path_key;
 mod plain_filer;
 mod replay;
 mod reply;

@@ -3,7 +3,6 @@ ghost use Rattle.std.specs.FinMap.{empty, from_entries};
 ghost use Rattle.name_core.specs.Namespace.{after_changes, is_within, step};
 ghost use Rattle.weed.specs.KeptNames.{IsKept, AreKept};
 
-use crate::path_key::PathKey;
 use name_core::{Change, Entry, KeeperFault, Names, RecordChanges};
 use std::alloc::{AllocError, Global};
 use std::collections::HashMap;
@@ -22,7 +21,7 @@ fn stands_within(path: &Path, top: &Path) -> bool
 /// A namespace in memory: each entry by its path.
 #[derive(Debug, Drop)]
 pub struct NameTable {
-    entries: HashMap<PathKey, Entry>,
+    entries: HashMap<Path, Entry>,
     ghost kept: { AreKept (from_entries entries.entries) },
 }
 
@@ -67,7 +66,7 @@ impl NameTable {
     {
         match change {
             Change::Put(path, entry) => {
-                let put: Result<_, _> = self.entries.insert(PathKey::of(path), entry);
+                let put: Result<_, _> = self.entries.insert(path, entry);
                 put.unwrap();
             }
             Change::Drop(top) => self.remove_within(&top),
@@ -79,8 +78,7 @@ impl NameTable {
         ensures names { names_of self.new ≡ step (Drop top.now) (names_of self.old) }
         ensures spare { spare_of self.old ≤ spare_of self.new }
     {
-        self.entries
-            .retain(|key, _| !stands_within(key.path(), top));
+        self.entries.retain(|path, _| !stands_within(path, top));
     }
 }
 
@@ -93,8 +91,7 @@ impl Names for NameTable {
     ghost faults = { λ _. 0 };
 
     fn find(&mut self, alloc: Global, path: &Path) -> Result<Option<Entry>, KeeperFault> {
-        let key = PathKey::of(path.copy(alloc)?);
-        match self.entries.get(&key) {
+        match self.entries.get(path) {
             Some(entry) => Ok(Some(entry.copy(alloc)?)),
             None => Ok(None),
         }

@@ -1,4 +1,5 @@
 pub mod PathLemmas
+pub mod PathOrderLemmas
 pub mod ReadLemmas
 pub mod PathFaultLemmas
 pub mod TableLemmas

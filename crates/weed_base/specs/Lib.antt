@@ -5,6 +5,7 @@ pub mod Files
 pub mod Images
 pub mod Sent
 pub mod Path
+pub mod PathOrder
 pub mod Attachment
 pub mod Calls
 pub mod History

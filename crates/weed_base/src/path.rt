@@ -3,11 +3,15 @@ ghost use Rattle.std.specs.List.{last_or};
 ghost use Rattle.std.specs.Str.{IsUtf8};
 ghost use Rattle.weed_base.specs.Path.{IsPath, IsBelow, spelled, text_of, parts_of, parent_of};
 ghost use Rattle.weed_base.specs.PathFaults.{read_fault, join_fault};
+ghost use Rattle.weed_base.specs.PathOrder.{same_path, same_path-exact, path_cmp_total};
+ghost use Rattle.std.specs.Cmp.{partial_equiv_from_equiv, eq_by_cmp_equiv};
+ghost use Rattle.std.proofs.Common.{ap};
 
 use crate::bytes::Name;
 use crate::path_check::{fault_of_join, fault_of_text, slash_count};
 use crate::path_fault::PathFault;
 use std::alloc::{AllocError, Global};
+use std::hash::{Hash, Hasher};
 use std::marker::Model;
 
 /// The path of an entry: at most 64 parts, whose text has at most 4,096 bytes. Contracts see the list of
@@ -30,6 +34,30 @@ impl Model for Path {
     ghost view = { λ path. parts_of path.bytes.items };
 
     ghost invariant = { λ path. (spelled (parts_of path.bytes.items) ≡ path.bytes.items) × IsPath (parts_of path.bytes.items) };
+}
+
+impl PartialEq for Path {
+    ghost eq = { same_path };
+
+    ghost laws = { partial_equiv_from_equiv (eq_by_cmp_equiv path_cmp_total) };
+
+    fn eq(&self, other: &Path) -> bool {
+        self.is(other)
+    }
+}
+
+impl Eq for Path {
+    ghost laws = { eq_by_cmp_equiv path_cmp_total };
+}
+
+impl Hash for Path {
+    ghost hash_input = { λ path. text_of path ∷ [] };
+
+    ghost respects_eq = { λ x y same. ap (λ path. text_of path ∷ []) (same_path-exact x y same) };
+
+    fn hash<H: Hasher>(&self, state: &mut H) {
+        state.write(self.text());
+    }
 }
 
 impl Path {

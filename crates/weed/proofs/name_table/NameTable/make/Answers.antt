@@ -11,8 +11,7 @@ invariant_of-self c =
     let names = names_of c.args.self.now in
     let updates = as_it_succeeds c.insert-put.result (c.insert-put.ensures.succeeds c.requires.spare) c.insert-put.ensures.updates in
     let done : from_entries c.insert-put.new.self.entries ≡ insert names c.in-Put.path c.in-Put.entry =
-    put_in c.args.self.now.entries.entries c.insert-put.new.self.entries c.of.result c.in-Put.entry updates.0
-    ∙ ap (λ path. insert names path c.in-Put.entry) c.of.ensures in record {
+    put_in c.args.self.now.entries.entries c.insert-put.new.self.entries c.in-Put.path c.in-Put.entry updates.0 in record {
       kept = subst AreKept (sym done) (put_keeps c.in-Put.path c.in-Put.entry names (subst IsKept c.in-Put.is c.requires.kept) c.args.self.now.kept);
     }
 
@@ -20,6 +19,5 @@ pub returns-in-Put-clause-names : goal.returns-in-Put-clause-names
 returns-in-Put-clause-names c =
     let names = names_of c.args.self.now in
     let updates = as_it_succeeds c.insert-put.result (c.insert-put.ensures.succeeds c.requires.spare) c.insert-put.ensures.updates in
-    put_in c.args.self.now.entries.entries c.insert-put.new.self.entries c.of.result c.in-Put.entry updates.0
-    ∙ ap (λ path. insert names path c.in-Put.entry) c.of.ensures
+    put_in c.args.self.now.entries.entries c.insert-put.new.self.entries c.in-Put.path c.in-Put.entry updates.0
     ∙ ap (λ change. step change names) (sym c.in-Put.is)
