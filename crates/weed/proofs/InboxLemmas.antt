@@ -1,15 +1,15 @@
 -- What an inbox holds after a read, and what it finds.
-use Rattle.std.proofs.Common.{◌≡◌, ℕ, ◌+◌, ◌-◌, ◌<◌, ◌≤◌, List, [], ◌∷◌, ◌++◌, length, take, drop, codes, Option, Some, None, IfSome, refl, sym, ap, subst, ◌∙◌, arith, append_assoc, inl, inr, ◌⊎◌, ⊎_elim}
+use Rattle.std.proofs.Common.{◌≡◌, ℕ, suc, ◌+◌, ◌-◌, ◌<◌, ◌≤◌, List, [], ◌∷◌, ◌++◌, length, take, drop, codes, Option, Some, None, IfSome, refl, sym, ap, subst, ◌∙◌, arith, append_assoc, inl, inr, ◌⊎◌, ⊎_elim}
 use Rattle.std.specs.Option.{option_map}
 use Rattle.std.proofs.lemmas.Bool.{cases_lt}
 use Rattle.std.proofs.lemmas.List.{length-append, length-drop, take-append-drop, take-append-le, take_at, drop-drop, drop-take}
 use Rattle.std.proofs.lemmas.List.Prefix.{at_from_reads, at_reads}
 use Rattle.std.proofs.lemmas.Option.{same_Some}
 use Rattle.memchr.specs.Find.{OccursAt, Nowhere, NoneBefore}
-use Rattle.weed_base.specs.Told.{Consumes, IsAtEnd}
+use Rattle.weed_base.specs.Told.{raised, Consumes, IsAtEnd}
 use Rattle.weed.specs.Request.{IsRequest, host_line}
 use Rattle.weed.specs.HeadEnd.{IsEndAt, HasNoEndBelow, IsHeadLength}
-use Rattle.weed.specs.Inbox.{InboxState, Finds, Takes, Adds, IsNoRequest, left_of}
+use Rattle.weed.specs.Inbox.{InboxState, Finds, Takes, Adds, IsNoRequest, LacksHead, NeedsReads, left_of}
 use Rattle.weed.specs.declared.inbox.Head.{Head}
 use Rattle.weed.specs.declared.inbox.Head.TheVariants.{End, Request, NotYet}
 use Rattle.weed.proofs.ListLemmas.{take-add}
@@ -174,3 +174,9 @@ ended_before pending new left new_left count none (bytes, size, _, consumed, end
 pub none_more : (pending new left : List ℕ) → HasNoEndBelow pending (length pending) → new ≡ pending ++ left → HasNoEndBelow new (length pending - 2)
 none_more pending new left none grown place below stands =
     none place (omega arith) (sym (end-append pending left place (omega arith)) ∙ ap (λ xs. take 3 (drop place xs)) (sym grown) ∙ stands)
+
+-- one needed read more
+pub needs_more : {S : Type 0} (left : S → Option (List ℕ)) (reads : S → ℕ) (all : Option (List ℕ)) (old mid new : S) (ahead : List ℕ)
+    → (count : ℕ) × NeedsReads left reads all count old mid → left_of ahead (left mid) ≡ all → LacksHead ahead → reads new ≡ raised (reads mid)
+    → (count : ℕ) × NeedsReads left reads all count old new
+needs_more left reads all old mid new ahead before came lacks once = (suc before.0, (mid, before.1, record { ahead = ahead; came = sym came; lacks = lacks; once = once }))

@@ -1,7 +1,8 @@
 -- The bytes that were read ahead of their use, and what stands at the front of all that is left.
-use Rattle.std.specs.Prelude.{◌≡◌, ◌≢◌, ℕ, List, [], ◌++◌, length, take, drop, Option, IfSome}
+use Rattle.std.specs.Prelude.{◌≡◌, ◌≢◌, ℕ, zero, suc, ◌<◌, List, [], ◌++◌, length, take, drop, Option, IfSome}
 use Rattle.std.specs.Option.{option_map}
-use Rattle.weed_base.specs.Told.{Consumes, IsAtEnd}
+use Rattle.weed_base.specs.Told.{raised, Consumes, IsAtEnd}
+use Rattle.weed.specs.HeadEnd.{HasNoEndBelow}
 use Rattle.weed.specs.Request.{IsRequest, BeginsWithRequest}
 use Rattle.weed.specs.declared.inbox.Head.{Head}
 use Rattle.weed.specs.declared.inbox.Head.TheVariants.{End, Request, NotYet}
@@ -18,6 +19,23 @@ left_of pending left = option_map (λ bytes. pending ++ bytes) left
 -- something, which no request begins
 abbrev pub IsNoRequest : List ℕ → Type 0
 IsNoRequest bytes = (bytes ≢ []) × (¬ BeginsWithRequest bytes)
+
+-- it takes more to tell what these bytes begin: no head of them is whole, and one may still be
+pub record LacksHead (bytes : List ℕ) : Type 0 where
+  pub none : HasNoEndBelow bytes (length bytes)
+  pub short : length bytes < 16384
+
+-- a source was read once, as what had come ahead of it, of all the bytes that were left, lacked a head
+pub record IsNeededRead {S : Type 0} (left : S → Option (List ℕ)) (reads : S → ℕ) (all : Option (List ℕ)) (old new : S) : Type 0 where
+  pub ahead : List ℕ
+  pub came : Consumes all (left old) ahead
+  pub lacks : LacksHead ahead
+  pub once : reads new ≡ raised (reads old)
+
+-- it was read so often, each time so
+abbrev pub NeedsReads : {S : Type 0} → (S → Option (List ℕ)) → (S → ℕ) → Option (List ℕ) → ℕ → S → S → Type 0
+NeedsReads left reads all zero old new = new ≡ old
+NeedsReads {S = S} left reads all (suc count) old new = (mid : S) × NeedsReads left reads all count old mid × IsNeededRead left reads all mid new
 
 -- what stood at the front of the bytes left: nothing, a request, which was taken, or something else
 abbrev pub Finds : Head → Option (List ℕ) → Option (List ℕ) → List ℕ → Type 0

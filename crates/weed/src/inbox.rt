@@ -1,8 +1,8 @@
 ghost use Rattle.std.specs.Prelude.{◌≡◌, ◌+◌, ◌-◌, ◌<◌, ◌≤◌, List, ℕ, [], ◌++◌, length, take, drop, IfOk, IfSome, IfNone, MatchResult};
-ghost use Rattle.weed_base.specs.Told.{Reads, Consumes, IsAtEnd, HasCause};
+ghost use Rattle.weed_base.specs.Told.{raised, Reads, Consumes, IsAtEnd, HasCause};
 ghost use Rattle.weed.specs.Span.{part_at};
 ghost use Rattle.weed.specs.HeadEnd.{HasNoEndBelow, IsHeadLength};
-ghost use Rattle.weed.specs.Inbox.{left_of, Finds, Takes, Adds};
+ghost use Rattle.weed.specs.Inbox.{left_of, LacksHead, NeedsReads, Finds, Takes, Adds};
 
 use crate::request::{MAX_HEAD, read_request};
 use memchr::memmem;
@@ -97,23 +97,26 @@ impl Inbox {
 
     /// Reads as many bytes as there is room for, and answers how many, 0 only at the end.
     fn fill<S: Source>(&mut self, from: &mut S) -> Result<usize, Failed>
-        requires { length self.old.pending < 32768 }
+        requires { LacksHead self.old.pending }
         ensures bytes { MatchResult result
             (λ count. Adds self.old.pending self.new.pending (S.left from.old) (S.left from.new) count)
             (λ _. (self.new.pending ≡ self.old.pending) × (S.left from.new ≡ S.left from.old)) }
         ensures cause { HasCause (S.faults from.old) (S.faults from.new) result }
+        ensures once { S.reads from.new ≡ raised (S.reads from.old) }
     {
         read_more(from, &mut self.buffer, &mut self.pending)
     }
 }
 
 /// Finds what stands at the front of the bytes left, those of the inbox before those of the source, and
-/// reads as far as it takes to tell. A request is taken from them, and `Inbox::target` gives its target.
+/// reads as far as it takes to tell, so it waits for no byte behind a request. A request is taken from them, and `Inbox::target` gives its target.
 /// After any other answer, and after a failed read, all bytes are still there. Takes no memory.
 pub fn next_head<S: Source>(from: &mut S, inbox: &mut Inbox) -> Result<Head, Failed>
     ensures head { MatchResult result
         (λ head. Finds head (left_of inbox.old.pending (S.left from.old)) (left_of inbox.new.pending (S.left from.new)) inbox.new.target)
         (λ _. left_of inbox.new.pending (S.left from.new) ≡ left_of inbox.old.pending (S.left from.old)) }
+    ensures needed { (count : ℕ) × NeedsReads S.left S.reads (left_of inbox.old.pending (S.left from.old)) count from.old from.new }
+    ensures at_hand { ¬ LacksHead inbox.old.pending → from.new ≡ from.old }
     ensures cause { HasCause (S.faults from.old) (S.faults from.new) result }
 {
     let mut searched = 0;
@@ -137,13 +140,14 @@ fn read_more<S: Source>(from: &mut S, buffer: &mut [u8], part: &mut Span) -> Res
     requires buffer { length buffer.old ≡ 32768 }
     requires ordered { part.old.start ≤ part.old.end }
     requires within { part.old.end ≤ 32768 }
-    requires short { part.old.end - part.old.start < 32768 }
+    requires lacks { LacksHead (part_at part.old buffer.old) }
     ensures bytes { MatchResult result
         (λ count. Adds (part_at part.old buffer.old) (part_at part.new buffer.new) (S.left from.old) (S.left from.new) count)
         (λ _. (part_at part.new buffer.new ≡ part_at part.old buffer.old) × (S.left from.new ≡ S.left from.old)) }
     ensures ordered { part.new.start ≤ part.new.end }
     ensures within { part.new.end ≤ 32768 }
     ensures cause { HasCause (S.faults from.old) (S.faults from.new) result }
+    ensures once { S.reads from.new ≡ raised (S.reads from.old) }
 {
     *part = make_room(buffer, *part);
     let count = read_behind(from, buffer, part.end)?;
@@ -177,6 +181,7 @@ fn read_behind<S: Source>(from: &mut S, buffer: &mut [u8], end: usize) -> Result
     ensures bytes { Reads (S.left from.old) (S.left from.new) result (drop end buffer.new) }
     ensures front { take end buffer.new ≡ take end buffer.old }
     ensures cause { HasCause (S.faults from.old) (S.faults from.new) result }
+    ensures once { S.reads from.new ≡ raised (S.reads from.old) }
 {
     from.read(&mut buffer[end..])
 }

@@ -1,9 +1,9 @@
 use Rattle.std.proofs.Common.{List, ℕ, Option, ◌<◌, ◌≤◌, length, ap, subst, ◌∙◌, IfSome, arith}
 use Rattle.std.proofs.lemmas.List.{length-append}
 use Rattle.weed.specs.HeadEnd.{HasNoEndBelow, IsHeadLength}
-use Rattle.weed.specs.Inbox.{Finds, IsNoRequest, left_of}
+use Rattle.weed.specs.Inbox.{InboxState, Finds, IsNoRequest, LacksHead, left_of}
 use Rattle.weed.proofs.HeadLemmas.{end_fits}
-use Rattle.weed.proofs.InboxLemmas.{finds_head, none_long, none_at_end, left_of_adds, ended_before, none_more}
+use Rattle.weed.proofs.InboxLemmas.{finds_head, none_long, none_at_end, left_of_adds, ended_before, none_more, needs_more}
 use Rattle.weed.proofs.inbox.next_head.Goals as goal
 
 pub take_head-requires : goal.take_head-requires
@@ -50,10 +50,38 @@ loop-count-preserved g c =
     let adds = c.in_ok-fill.ensures.bytes in
     let none : HasNoEndBelow pending (length pending) = subst (λ xs. HasNoEndBelow xs (length xs)) c.pending.ensures c.in_default.ensures.none in
     let count = ap length c.pending-count.ensures in
+    let lacks : LacksHead pending = record { none = none; short = omega (arith, c.if-count-ge-MAX_HEAD.false, count) } in
     let grown = ap length adds.2 ∙ length-append pending adds.0 in
     record {
       within = omega (arith, c.saturating_sub-searched.ensures, count, grown);
       none = λ place below. none_more pending after adds.0 none adds.2 place (omega (arith, c.saturating_sub-searched.ensures, count));
       left = left_of_adds pending after (g.S.Source.left c.loop-count.from) (g.S.Source.left c.fill.new.from) c.in_ok-fill.field-0 adds ∙ c.loop-count.invariant.left;
+      needed = needs_more g.S.Source.left g.S.Source.reads (left_of c.args.inbox.now.pending (g.S.Source.left c.args.from.now)) c.args.from.now c.loop-count.from c.fill.new.from pending
+          c.loop-count.invariant.needed c.loop-count.invariant.left lacks c.in_ok-fill.ensures.once;
+      at_hand = λ whole. absurd (whole (subst (λ (inbox : InboxState). LacksHead inbox.pending) (c.loop-count.invariant.at_hand whole).1 lacks));
       faults = c.in_ok-fill.ensures.cause ∙ c.loop-count.invariant.faults;
     }
+
+pub returns-in_err-fill-clause-needed : goal.returns-in_err-fill-clause-needed
+returns-in_err-fill-clause-needed g c =
+    let pending = c.loop-count.inbox.pending in
+    let none : HasNoEndBelow pending (length pending) = subst (λ xs. HasNoEndBelow xs (length xs)) c.pending.ensures c.in_default.ensures.none in
+    let lacks : LacksHead pending = record { none = none; short = omega (arith, c.if-count-ge-MAX_HEAD.false, ap length c.pending-count.ensures) } in
+    needs_more g.S.Source.left g.S.Source.reads (left_of c.args.inbox.now.pending (g.S.Source.left c.args.from.now)) c.args.from.now c.loop-count.from c.fill.new.from pending
+    c.loop-count.invariant.needed c.loop-count.invariant.left lacks c.in_err-fill.ensures.once
+
+pub returns-then-count-eq0-clause-needed : goal.returns-then-count-eq0-clause-needed
+returns-then-count-eq0-clause-needed g c =
+    let pending = c.loop-count.inbox.pending in
+    let none : HasNoEndBelow pending (length pending) = subst (λ xs. HasNoEndBelow xs (length xs)) c.pending.ensures c.in_default.ensures.none in
+    let lacks : LacksHead pending = record { none = none; short = omega (arith, c.if-count-ge-MAX_HEAD.false, ap length c.pending-count.ensures) } in
+    needs_more g.S.Source.left g.S.Source.reads (left_of c.args.inbox.now.pending (g.S.Source.left c.args.from.now)) c.args.from.now c.loop-count.from c.fill.new.from pending
+    c.loop-count.invariant.needed c.loop-count.invariant.left lacks c.in_ok-fill.ensures.once
+
+pub returns-else-count-eq0-clause-needed : goal.returns-else-count-eq0-clause-needed
+returns-else-count-eq0-clause-needed g c =
+    let pending = c.loop-count.inbox.pending in
+    let none : HasNoEndBelow pending (length pending) = subst (λ xs. HasNoEndBelow xs (length xs)) c.pending.ensures c.in_default.ensures.none in
+    let lacks : LacksHead pending = record { none = none; short = omega (arith, c.if-count-ge-MAX_HEAD.false, ap length c.pending-count.ensures) } in
+    needs_more g.S.Source.left g.S.Source.reads (left_of c.args.inbox.now.pending (g.S.Source.left c.args.from.now)) c.args.from.now c.loop-count.from c.fill.new.from pending
+    c.loop-count.invariant.needed c.loop-count.invariant.left lacks c.in_ok-fill.ensures.once
