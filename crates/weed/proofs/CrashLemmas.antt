@@ -24,7 +24,8 @@ use Rattle.meta_log.specs.Images.{ImagesKeep, AllNear, AreNear}
 use Rattle.meta_log.proofs.RecordCrashes.{keeps_each}
 use Rattle.weed.specs.Handed.{IsSentAt, SendsAt}
 use Rattle.weed.specs.Settling.{IsOneOf, Settling, Tearing}
-use Rattle.weed.specs.Session.{State, Answers, Turn, Turns, Steps, Rests, SendsUnlessCut, EndsAfter, LeadsTo, Stands, disk_answer, last_of, most_turns}
+use Rattle.weed.specs.Inbox.{NeedsReads}
+use Rattle.weed.specs.Session.{State, Answers, Turn, Turns, Steps, Rests, SendsUnlessCut, ReadsAlong, EndsAfter, LeadsTo, Stands, disk_answer, last_of, most_turns}
 use Rattle.weed.specs.Tells.{Leads, Ends}
 use Rattle.weed.specs.Crash.{IsPassed, IsOfRun, BeginsWith, KeepsFrom, Withstands}
 use Rattle.weed.specs.declared.exit.Exit.{Exit}
@@ -303,20 +304,26 @@ pub ends_after : {D : Type 0} (Here Cut : Type 0) → (Here → Cut) → (tick :
     → (ImagesKeep (images start) first.log → Keeping tick images since sent start mid first path)
     → bytes_sent (sent mid) ≡ Some (last_of first path).sent → SendsAt (tick now) (sent mid) (sent now)
     → Leads Here (last_of first path) (Settling tick images since mid now (last_of first path).log) (Tearing tick images since mid now (last_of first path).log) left bytes files moments session (Ended end)
-    → (path : List State) × (last : State) × Stands left bytes files moments last × Ends Cut end first path last
+    → (last : State) × Stands left bytes files moments last × Ends Cut end first path last
     × (ImagesKeep (images start) first.log → Withstands tick images since sent start now end first path last)
 ends_after Here Cut cut tick images since sent only_now counts_now start mid now exit.Done first path left bytes files moments session turns few keeping told sends leads =
     let added = done_adds Here (last_of first path) leads.0 leads.2 in
-    (path, leads.0, leads.1, (turns, few, leads.2), λ keep. settled_ends tick images since sent only_now start mid now first path (keeping keep) exit.Done leads.0 added.0 added.1 refl leads.3 sends told)
+    (leads.0, leads.1, (turns, few, leads.2), λ keep. settled_ends tick images since sent only_now start mid now first path (keeping keep) exit.Done leads.0 added.0 added.1 refl leads.3 sends told)
 ends_after Here Cut cut tick images since sent only_now counts_now start mid now exit.ReadFault first path left bytes files moments session turns few keeping told sends leads =
     let added = rests_add (last_of first path) leads.0 leads.2 in
-    (path, leads.0, leads.1, (turns, few, leads.2), λ keep. settled_ends tick images since sent only_now start mid now first path (keeping keep) exit.ReadFault leads.0 added.0 added.1 refl leads.3 sends told)
+    (leads.0, leads.1, (turns, few, leads.2), λ keep. settled_ends tick images since sent only_now start mid now first path (keeping keep) exit.ReadFault leads.0 added.0 added.1 refl leads.3 sends told)
 ends_after Here Cut cut tick images since sent only_now counts_now start mid now exit.WriteFault first path left bytes files moments session turns few keeping told sends leads =
     let added = answers_add (last_of first path) leads.0.left leads.2.0 leads.2.1 leads.0.log leads.0.moments leads.2.3 in
-    (path, leads.0, leads.1, (turns, few, leads.2), λ keep. settled_ends tick images since sent only_now start mid now first path (keeping keep) exit.WriteFault leads.0 added.0 added.1 refl leads.3 sends told)
+    (leads.0, leads.1, (turns, few, leads.2), λ keep. settled_ends tick images since sent only_now start mid now first path (keeping keep) exit.WriteFault leads.0 added.0 added.1 refl leads.3 sends told)
 ends_after Here Cut cut tick images since sent only_now counts_now start mid now exit.DiskFault first path left bytes files moments session turns few keeping told sends leads =
-    (path, leads.0, leads.1, (turns, few, faulted_weaker Here Cut cut (last_of first path) leads.0 leads.2), λ keep. torn_ends tick images since sent only_now start mid now first path (keeping keep) counts_now leads.0 leads.3.0 leads.3.1 leads.3.2 sends)
+    (leads.0, leads.1, (turns, few, faulted_weaker Here Cut cut (last_of first path) leads.0 leads.2), λ keep. torn_ends tick images since sent only_now start mid now first path (keeping keep) counts_now leads.0 leads.3.0 leads.3.1 leads.3.2 sends)
 ends_after Here Cut cut tick images since sent only_now counts_now start mid now (exit.BadWords place) first path left bytes files moments session turns few keeping told sends leads = absurd leads.2
 ends_after Here Cut cut tick images since sent only_now counts_now start mid now (exit.Damaged file at) first path left bytes files moments session turns few keeping told sends leads = absurd leads.2
 ends_after Here Cut cut tick images since sent only_now counts_now start mid now exit.Memory first path left bytes files moments session turns few keeping told sends leads = absurd leads.2
 ends_after Here Cut cut tick images since sent only_now counts_now start mid now exit.TurnsSpent first path left bytes files moments session turns few keeping told sends leads = absurd leads.2
+
+-- A turn more was read along the path.
+pub reads-push : {S : Type 0} (left : S → Option (List ℕ)) (reads : S → ℕ) (old mid new : S) (first : State) (path : List State) (next : State)
+    → ReadsAlong left reads old mid first path → NeedsReads left reads (Some (last_of first path).left) mid new → ReadsAlong left reads old new first (path ++ next ∷ [])
+reads-push left reads old mid new first [] next along needs = (new, subst (λ source. NeedsReads left reads (Some first.left) source new) along needs, refl)
+reads-push left reads old mid new first (step ∷ later) next along needs = (along.0, along.1, reads-push left reads along.0 mid new step later next along.2 needs)

@@ -177,6 +177,6 @@ none_more pending new left none grown place below stands =
 
 -- one needed read more
 pub needs_more : {S : Type 0} (left : S → Option (List ℕ)) (reads : S → ℕ) (all : Option (List ℕ)) (old mid new : S) (ahead : List ℕ)
-    → (count : ℕ) × NeedsReads left reads all count old mid → left_of ahead (left mid) ≡ all → LacksHead ahead → reads new ≡ raised (reads mid)
-    → (count : ℕ) × NeedsReads left reads all count old new
+    → NeedsReads left reads all old mid → left_of ahead (left mid) ≡ all → LacksHead ahead → reads new ≡ raised (reads mid)
+    → NeedsReads left reads all old new
 needs_more left reads all old mid new ahead before came lacks once = (suc before.0, (mid, before.1, record { ahead = ahead; came = sym came; lacks = lacks; once = once }))

@@ -33,9 +33,13 @@ pub record IsNeededRead {S : Type 0} (left : S → Option (List ℕ)) (reads : S
   pub once : reads new ≡ raised (reads old)
 
 -- it was read so often, each time so
-abbrev pub NeedsReads : {S : Type 0} → (S → Option (List ℕ)) → (S → ℕ) → Option (List ℕ) → ℕ → S → S → Type 0
-NeedsReads left reads all zero old new = new ≡ old
-NeedsReads {S = S} left reads all (suc count) old new = (mid : S) × NeedsReads left reads all count old mid × IsNeededRead left reads all mid new
+abbrev pub NeedsSoMany : {S : Type 0} → (S → Option (List ℕ)) → (S → ℕ) → Option (List ℕ) → ℕ → S → S → Type 0
+NeedsSoMany left reads all zero old new = new ≡ old
+NeedsSoMany {S = S} left reads all (suc count) old new = (mid : S) × NeedsSoMany left reads all count old mid × IsNeededRead left reads all mid new
+
+-- it was read no more often than it took to tell what stands at the front of all the bytes that were left
+abbrev pub NeedsReads : {S : Type 0} → (S → Option (List ℕ)) → (S → ℕ) → Option (List ℕ) → S → S → Type 0
+NeedsReads left reads all old new = (count : ℕ) × NeedsSoMany left reads all count old new
 
 -- what stood at the front of the bytes left: nothing, a request, which was taken, or something else
 abbrev pub Finds : Head → Option (List ℕ) → Option (List ℕ) → List ℕ → Type 0

@@ -115,7 +115,7 @@ pub fn next_head<S: Source>(from: &mut S, inbox: &mut Inbox) -> Result<Head, Fai
     ensures head { MatchResult result
         (λ head. Finds head (left_of inbox.old.pending (S.left from.old)) (left_of inbox.new.pending (S.left from.new)) inbox.new.target)
         (λ _. left_of inbox.new.pending (S.left from.new) ≡ left_of inbox.old.pending (S.left from.old)) }
-    ensures needed { (count : ℕ) × NeedsReads S.left S.reads (left_of inbox.old.pending (S.left from.old)) count from.old from.new }
+    ensures needed { NeedsReads S.left S.reads (left_of inbox.old.pending (S.left from.old)) from.old from.new }
     ensures at_hand { ¬ LacksHead inbox.old.pending → from.new ≡ from.old }
     ensures cause { HasCause (S.faults from.old) (S.faults from.new) result }
 {

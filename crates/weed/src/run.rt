@@ -13,7 +13,7 @@ ghost use Rattle.weed.specs.Words.{order_of};
 ghost use Rattle.weed.specs.Causes.{IsCauseBeside};
 ghost use Rattle.weed.specs.Crash.{Survives};
 ghost use Rattle.weed.specs.Filer.{HoldsFiler};
-ghost use Rattle.weed.specs.Session.{State, Stands, Turns, most_turns};
+ghost use Rattle.weed.specs.Session.{State, Stands, Turns, ReadsNoMore, most_turns};
 ghost use Rattle.weed.specs.Run.{Starts, Begins, EndsRun, EndsUnread, IsEarly, IfDamagedExit, IsDoneOrShort, exit_of_fault};
 
 use crate::exit::Exit;
@@ -72,7 +72,8 @@ pub fn weed<S: Source, H: Host, C: Clock>(
         → Starts (S.left world.source) (bytes_sent (H.sent world.host)) (H.files world.host) (C.moments world.clock) first
         → (path : List State) × (last : State) × Stands (S.left result.1.source) (bytes_sent (H.sent result.1.host)) (H.files result.1.host) (C.moments result.1.clock) last
         × EndsRun (Rose (H.send_faults world.host) (H.send_faults result.1.host)) result.0 first path last (λ of_run. IsOwn (H.images world.host)
-        → Survives H.tick H.images H.image_since H.sent world.host result.1.host result.0 first path last of_run) }
+        → Survives H.tick H.images H.image_since H.sent world.host result.1.host result.0 first path last of_run)
+        × ReadsNoMore S.left S.reads world.source result.1.source first path }
 
     // Where nothing of the outside failed, the log is one, and fewer than 2^40 requests are answered without
     // closing, the run is done, or memory was wanting.
@@ -116,7 +117,8 @@ fn filer_once<S: Source, H: Host, C: Clock>(
     ensures answers { (first : State) → Starts (S.left world.old.source) (bytes_sent (H.sent world.old.host)) (H.files world.old.host) (C.moments world.old.clock) first
         → (path : List State) × (last : State) × Stands (S.left world.new.source) (bytes_sent (H.sent world.new.host)) (H.files world.new.host) (C.moments world.new.clock) last
         × EndsRun (Rose (H.send_faults world.old.host) (H.send_faults world.new.host)) result first path last (λ of_run. IsOwn (H.images world.old.host)
-        → Survives H.tick H.images H.image_since H.sent world.old.host world.new.host result first path last of_run) }
+        → Survives H.tick H.images H.image_since H.sent world.old.host world.new.host result first path last of_run)
+        × ReadsNoMore S.left S.reads world.old.source world.new.source first path }
     ensures unreadable { (files : Files) → H.files world.old.host ≡ Some files → ((records : List Record) → ¬ IsRecordLog files records)
         → EndsUnread result (H.sent world.old.host) (H.sent world.new.host) (S.left world.old.source) (S.left world.new.source) }
     ensures good_words { (place : ℕ) → result ≡ Exit.BadWords place → ⊥ }

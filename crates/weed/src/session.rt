@@ -9,7 +9,7 @@ ghost use Rattle.weed.specs.Crash.{Withstands};
 ghost use Rattle.weed.specs.Filer.{HoldsFiler};
 ghost use Rattle.weed.specs.Handed.{SendsAt};
 ghost use Rattle.weed.specs.Inbox.{left_of, NeedsReads};
-ghost use Rattle.weed.specs.Session.{State, Stands};
+ghost use Rattle.weed.specs.Session.{State, Stands, ReadsNoMore};
 ghost use Rattle.weed.specs.Settling.{Settling, Tearing};
 ghost use Rattle.weed.specs.Tells.{Sends, Tells, Asking, Leads, Ends, IsTurnEnd, IsSessionEnd};
 
@@ -70,7 +70,8 @@ pub fn run<S: Source, H: Host, C: Clock>(
     requires { (records : List Record) × HoldsFiler (H.files world.old.host) session.old.filer records }
     ensures ends { (first : State) → Tells (S.left world.old.source) (bytes_sent (H.sent world.old.host)) (H.files world.old.host) (C.moments world.old.clock) session.old first
         → (path : List State) × (last : State) × Stands (S.left world.new.source) (bytes_sent (H.sent world.new.host)) (H.files world.new.host) (C.moments world.new.clock) last × Ends (Rose (H.send_faults world.old.host) (H.send_faults world.new.host)) result first path last
-        × (ImagesKeep (H.images world.old.host) first.log → Withstands H.tick H.images H.image_since H.sent world.old.host world.new.host result first path last) }
+        × (ImagesKeep (H.images world.old.host) first.log → Withstands H.tick H.images H.image_since H.sent world.old.host world.new.host result first path last)
+        × ReadsNoMore S.left S.reads world.old.source world.new.source first path }
     ensures disk { IsCauseOf (H.faults world.old.host) (H.faults world.new.host) (result ≡ Exit.DiskFault) }
     ensures read { IsCauseOf (S.faults world.old.source) (S.faults world.new.source) (result ≡ Exit.ReadFault) }
     ensures write { IsCauseBeside (H.send_faults world.old.host) (H.send_faults world.new.host) (result ≡ Exit.WriteFault) (result ≡ Exit.DiskFault) }
@@ -96,7 +97,7 @@ fn turn<S: Source, H: Host, C: Clock>(
     ensures leads { (old : State) → Tells (S.left world.old.source) (bytes_sent (H.sent world.old.host)) (H.files world.old.host) (C.moments world.old.clock) session.old old
         → Leads (Rose (H.send_faults world.old.host) (H.send_faults world.new.host)) old (Settling H.tick H.images H.image_since world.old.host world.new.host old.log) (Tearing H.tick H.images H.image_since world.old.host world.new.host old.log)
         (S.left world.new.source) (bytes_sent (H.sent world.new.host)) (H.files world.new.host) (C.moments world.new.clock) session.new result }
-    ensures needed { (count : ℕ) × NeedsReads S.left S.reads (left_of session.old.inbox.pending (S.left world.old.source)) count world.old.source world.new.source }
+    ensures needed { NeedsReads S.left S.reads (left_of session.old.inbox.pending (S.left world.old.source)) world.old.source world.new.source }
     ensures pieces { SendsAt (H.tick world.new.host) (H.sent world.old.host) (H.sent world.new.host) }
     ensures held { result ≡ Turned.Open → (records : List Record) × HoldsFiler (H.files world.new.host) session.new.filer records }
     ensures disk { IsCauseOf (H.faults world.old.host) (H.faults world.new.host) (result ≡ Turned.Ended Exit.DiskFault) }

@@ -36,6 +36,7 @@ returns-in-Ok-clause-answers g c first starts =
             (own_is_sound (disk.images old) log.0 first.log own (g.met.H.Disk.reads_now old log.0 log.1) log.2)
             (ran.4 (c.in-Ok.ensures.settled log.0 first.log log.1 log.2)) _ ends,
       ),
+      ran.5,
     )
 
 pub returns-in-Err-clause-answers : goal.returns-in-Err-clause-answers
@@ -57,6 +58,7 @@ returns-in-Err-clause-answers g c first starts =
             survives_early disk.tick disk.images disk.image_since disk.sent g.met.H.Disk.only_now g.met.H.Disk.counts_now old new own (c.in-Err.ensures.atomic log.0 log.1) c.in-Err.exit first first
             stands.sent_is,
       ),
+      (c.args.world.now.source, refl, (0, refl)),
     )
 
 pub returns-in-Ok-clause-unreadable : goal.returns-in-Ok-clause-unreadable

@@ -2,11 +2,12 @@ use Rattle.std.proofs.Common.{◌≡◌, ◌<◌, ◌+◌, ◌∙◌, ◌++◌, 
 use Rattle.std.proofs.lemmas.List.{length_push}
 use Rattle.weed_base.specs.Told.{Rose}
 use Rattle.weed_base.specs.Sent.{bytes_sent}
+use Rattle.weed.specs.Inbox.{NeedsReads}
 use Rattle.weed.specs.Session.{State, Turn, last_of, most_turns}
 use Rattle.weed.specs.declared.exit.Exit.TheVariants.{DiskFault, ReadFault, WriteFault}
 use Rattle.weed.proofs.SessionLemmas.{rests, open_is_no_end}
 use Rattle.weed.specs.Tells.{Tells}
-use Rattle.weed.proofs.CrashLemmas.{keeping_begins, keeping_more, last_of-push, steps-push, ends_after, spent_ends}
+use Rattle.weed.proofs.CrashLemmas.{keeping_begins, keeping_more, last_of-push, steps-push, reads-push, ends_after, spent_ends}
 use Rattle.weed.proofs.session.run.Goals as goal
 
 pub loop-turn-init : goal.loop-turn-init
@@ -14,7 +15,7 @@ loop-turn-init g c =
     let disk = g.H.Disk in
     record {
       held = c.requires;
-      led = λ first tells. ([], tells, tt, refl, λ keep. keeping_begins disk.tick disk.images disk.image_since disk.sent g.met.H.Disk.only_now c.args.world.now.host first keep);
+      led = λ first tells. ([], tells, tt, refl, λ keep. keeping_begins disk.tick disk.images disk.image_since disk.sent g.met.H.Disk.only_now c.args.world.now.host first keep, refl);
       faults = refl;
       read_faults = refl;
       send_faults = refl;
@@ -27,6 +28,7 @@ loop-turn-preserved g c =
     let start = c.args.world.now.host in
     let mid = c.loop-turn.world.host in
     let now = c.turn.new.world.host in
+    let source = g.S.Source in
     record {
       held = c.in-Open.ensures.held refl;
       led = λ first tells.
@@ -37,6 +39,8 @@ loop-turn-preserved g c =
             steps-push Turn first before.0 turn.0 before.2 turn.2,
             length_push before.0 turn.0 ∙ ap (λ n. n + 1) before.3,
             λ keep. keeping_more disk.tick disk.images disk.image_since disk.sent g.met.H.Disk.only_now start mid now first before.0 (before.4 keep) turn.0 turn.2 turn.3 c.in-Open.ensures.pieces before.1.sent_is,
+            reads-push source.left source.reads c.args.world.now.source c.loop-turn.world.source c.turn.new.world.source first before.0 turn.0 before.5
+                (subst (λ all. NeedsReads source.left source.reads all c.loop-turn.world.source c.turn.new.world.source) before.1.left_is c.in-Open.ensures.needed),
           );
       faults = c.in-Open.ensures.disk.quiet (open_is_no_end DiskFault) ∙ c.loop-turn.invariant.faults;
       read_faults = c.in-Open.ensures.read.quiet (open_is_no_end ReadFault) ∙ c.loop-turn.invariant.read_faults;
@@ -52,9 +56,22 @@ returns-in-Ended-clause-ends g c first tells =
     let start = disk.send_faults c.args.world.now.host in
     let mid = disk.send_faults c.loop-turn.world.host in
     let now = disk.send_faults c.turn.new.world.host in
+    let ended =
     ends_after (Rose mid now) (Rose start now) (λ rose. omega (arith, rose, c.loop-turn.invariant.send_faults)) disk.tick disk.images disk.image_since disk.sent g.met.H.Disk.only_now g.met.H.Disk.counts_now c.args.world.now.host c.loop-turn.world.host c.turn.new.world.host c.in-Ended.exit first before.0
     (g.S.Source.left c.turn.new.world.source) (bytes_sent (disk.sent c.turn.new.world.host)) (disk.files c.turn.new.world.host) (g.C.Clock.moments c.turn.new.world.clock) c.turn.new.session
-    before.2 few before.4 before.1.sent_is c.in-Ended.ensures.pieces (c.in-Ended.ensures.leads (last_of first before.0) before.1)
+    before.2 few before.4 before.1.sent_is c.in-Ended.ensures.pieces (c.in-Ended.ensures.leads (last_of first before.0) before.1) in
+    let source = g.S.Source in (
+      before.0,
+      ended.0,
+      ended.1,
+      ended.2,
+      ended.3,
+      (
+        c.loop-turn.world.source,
+        before.5,
+        subst (λ all. NeedsReads source.left source.reads all c.loop-turn.world.source c.turn.new.world.source) before.1.left_is c.in-Ended.ensures.needed,
+      ),
+    )
 
 pub returns-clause-ends : goal.returns-clause-ends
 returns-clause-ends g c first tells =
@@ -68,4 +85,5 @@ returns-clause-ends g c first tells =
           (c.loop-turn.session.inbox.pending, before.1.left_is),
       (before.2, all, refl),
       λ keep. spent_ends disk.tick disk.images disk.image_since disk.sent g.met.H.Disk.only_now c.args.world.now.host now first before.0 (before.4 keep) before.1.sent_is,
+      (c.loop-turn.world.source, before.5, (0, refl)),
     )

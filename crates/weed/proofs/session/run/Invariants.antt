@@ -3,7 +3,7 @@ use Rattle.weed_base.specs.Sent.{bytes_sent}
 use Rattle.name_core.specs.declared.change.Record.{Record}
 use Rattle.meta_log.specs.Images.{ImagesKeep}
 use Rattle.weed.specs.Filer.{HoldsFiler}
-use Rattle.weed.specs.Session.{State, Turns, last_of}
+use Rattle.weed.specs.Session.{State, Turns, ReadsAlong, last_of}
 use Rattle.weed.specs.Tells.{Tells}
 use Rattle.weed.proofs.CrashLemmas.{Keeping}
 use Rattle.weed.proofs.session.run.Given as goal
@@ -16,7 +16,8 @@ invariant-loop-turn g l =
       led : (first : State) → Tells (g.S.Source.left l.fn.world.source) (bytes_sent (disk.sent l.fn.world.host)) (disk.files l.fn.world.host) (g.C.Clock.moments l.fn.world.clock) l.fn.session first
           → (path : List State) × Tells (g.S.Source.left l.world.source) (bytes_sent (disk.sent l.world.host)) (disk.files l.world.host) (g.C.Clock.moments l.world.clock) l.session (last_of first path)
           × Turns first path × (length path ≡ l._turn)
-          × (ImagesKeep (disk.images l.fn.world.host) first.log → Keeping disk.tick disk.images disk.image_since disk.sent l.fn.world.host l.world.host first path);
+          × (ImagesKeep (disk.images l.fn.world.host) first.log → Keeping disk.tick disk.images disk.image_since disk.sent l.fn.world.host l.world.host first path)
+          × ReadsAlong g.S.Source.left g.S.Source.reads l.fn.world.source l.world.source first path;
       faults : disk.faults l.world.host ≡ disk.faults l.fn.world.host;
       read_faults : g.S.Source.faults l.world.source ≡ g.S.Source.faults l.fn.world.source;
       send_faults : disk.send_faults l.world.host ≡ disk.send_faults l.fn.world.host;
