@@ -8,3 +8,4 @@ pub mod HistoryLemmas
 pub mod ReplayLemmas
 pub mod DiskCallLemmas
 pub mod StreamLemmas
+pub mod AwaitingLemmas

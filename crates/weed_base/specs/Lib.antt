@@ -14,3 +14,4 @@ pub mod PathFaults
 pub mod NamedBytes
 pub mod RealForms
 pub mod DiskLaws
+pub mod Awaiting

@@ -1,8 +1,9 @@
-//! The outside itself: std's streams, clock and files. These forms tell no content.
+//! The outside itself: std's streams, clock and files. The clock and the files tell no content.
 mod clock;
 mod dir_disk;
 mod dir_host;
 mod folder;
+mod kept;
 mod streams;
 
 pub use clock::SystemClock;

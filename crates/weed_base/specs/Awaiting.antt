@@ -1,0 +1,61 @@
+-- The open files of a directory, and what they await of the next sync.
+use Rattle.std.specs.Prelude.{◌≡◌, ◌≢◌, ◌⊎◌, ◌<◌, ℕ, cond, not, List, length, map, filter, slice_index_or, ⊤}
+use Rattle.std.specs.Str.{bytes_eq}
+use Rattle.std.specs.List.{Any}
+use Rattle.weed_base.specs.declared.real.kept.Awaits.{Awaits}
+use Rattle.weed_base.specs.declared.real.kept.Awaits.TheVariants.{Nothing, Data, Everything}
+use Rattle.weed_base.specs.declared.real.kept.KeptFile.{KeptFile}
+
+-- A mark asks for at least as much as another: everything for more than data, data for more than nothing.
+abbrev pub Covers : Awaits → Awaits → Type 0
+Covers mark Nothing = ⊤
+Covers Nothing Data = ⊥
+Covers Data Data = ⊤
+Covers Everything Data = ⊤
+Covers Nothing Everything = ⊥
+Covers Data Everything = ⊥
+Covers Everything Everything = ⊤
+
+-- An open file of that name awaits at least that.
+abbrev pub Awaiting : {F : Type 0} → List ℕ → Awaits → List (KeptFile F) → Type 0
+Awaiting name mark files = Any (λ kept. (kept.name ≡ name) × Covers kept.awaits mark) files
+
+-- Each file that awaited something is still open, and awaits at least as much.
+abbrev pub StillAwaits : {F : Type 0} → List (KeptFile F) → List (KeptFile F) → Type 0
+StillAwaits old new = (name : List ℕ) (mark : Awaits) → mark ≢ Nothing → Awaiting name mark old → Awaiting name mark new
+
+-- The file at that place has that name.
+abbrev pub IsNamedAt : {F : Type 0} → List ℕ → ℕ → List (KeptFile F) → Type 0
+IsNamedAt {F} name place files = (place < length files) × ((d : KeptFile F) → (slice_index_or files place d).name ≡ name)
+
+-- What a file awaited was asked of a sync of this kind, which answered Ok.
+abbrev pub IsAnswered : {F : Type 0} → (Awaits → F → Type 0) → Awaits → F → Type 0
+IsAnswered synced Nothing file = ⊤
+IsAnswered synced Data file = synced Data file
+IsAnswered synced Everything file = synced Everything file
+
+-- The file is the same, and its mark stays or falls to nothing, but falls only where it was answered.
+pub record FallsByAnswer {F : Type 0} (synced : Awaits → F → Type 0) (before after : KeptFile F) : Type 0 where
+  pub name : after.name ≡ before.name
+  pub file : after.file ≡ before.file
+  pub mark : (after.awaits ≡ before.awaits) ⊎ ((after.awaits ≡ Nothing) × IsAnswered synced before.awaits before.file)
+
+-- The relation holds of each two in the same place of two lists of one length.
+abbrev pub EachPair : {X : Type 0} → (X → X → Type 0) → List X → List X → Type 0
+EachPair {X} R old new = (length new ≡ length old) × ((k : ℕ) (d : X) → k < length old → R (slice_index_or old k d) (slice_index_or new k d))
+
+-- The file awaits nothing.
+abbrev pub AwaitsNothing : {F : Type 0} → KeptFile F → Type 0
+AwaitsNothing kept = kept.awaits ≡ Nothing
+
+-- The files but those of that name.
+abbrev pub without : {F : Type 0} → List ℕ → List (KeptFile F) → List (KeptFile F)
+without name files = filter (λ kept. not (bytes_eq kept.name name)) files
+
+-- The file, which has the second name where it had the first.
+abbrev pub renamed_file : {F : Type 0} → List ℕ → List ℕ → KeptFile F → KeptFile F
+renamed_file from to kept = cond (bytes_eq kept.name from) (record kept { name = to }) kept
+
+-- The files, of which what had the first name has the second, and what had the second is gone.
+abbrev pub renamed_files : {F : Type 0} → List ℕ → List ℕ → List (KeptFile F) → List (KeptFile F)
+renamed_files from to files = map (renamed_file from to) (without to files)

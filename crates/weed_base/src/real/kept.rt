@@ -1,0 +1,230 @@
+//! The open files of a directory, and what they await of the next sync.
+ghost use Rattle.std.specs.Prelude.{◌≡◌, ◌≢◌, ◌<◌, ◌+◌, ◌^◌, ◌⊎◌, ℕ, List, [], ⊤, length, slice_index_or, true, false, IsTrue, IsFalse, IfOk, IfSome, OnOk, OnErr};
+ghost use Rattle.std.specs.List.{All, position};
+ghost use Rattle.std.specs.Str.{bytes_eq};
+ghost use Rattle.weed_base.specs.Awaiting.{Covers, Awaiting, StillAwaits, IsNamedAt, FallsByAnswer, EachPair, AwaitsNothing, without, renamed_file, renamed_files};
+ghost use Rattle.weed_base.specs.declared.real.kept.Awaits.{Awaits};
+ghost use Rattle.weed_base.specs.declared.real.kept.Awaits.TheVariants.{Nothing, Data, Everything};
+
+use crate::file_name::FileName;
+use std::alloc::Global;
+use std::fs::{File, OpenFile};
+use std::io;
+use std::os::unix::fs::FileExt;
+
+/// So many files are kept open, besides those that await a sync.
+const MAX_KEPT: usize = 64;
+
+/// No file is longer.
+pub(super) const MAX_END: u64 = (1 << 63) - 1;
+
+/// What a file awaits of the next sync.
+#[derive(Clone, Copy, PartialEq, Eq, Drop)]
+pub(super) enum Awaits {
+    Nothing,
+    /// Bytes were written, and maybe past the end.
+    Data,
+    /// The file was made or cut.
+    Everything,
+}
+
+/// A file that is settled by its syncs. What the system settled no contract can see; that a sync was called
+/// and answered Ok, generic code has from these calls alone.
+pub(super) trait Settle: OpenFile + FileExt {
+    /// A sync of that kind answered Ok.
+    ghost synced: { Awaits → Self → Type 0 };
+
+    /// Settles the bytes, and the length.
+    fn settle_data(&self) -> io::Result<()>
+        ensures { OnOk result (synced Awaits.Data self.now) };
+
+    /// Settles all of the file, and of a directory the names.
+    fn settle_everything(&self) -> io::Result<()>
+        ensures { OnOk result (synced Awaits.Everything self.now) };
+}
+
+impl Settle for File {
+    ghost synced = { λ _ _. ⊤ };
+
+    fn settle_data(&self) -> io::Result<()> {
+        self.sync_data()
+    }
+
+    fn settle_everything(&self) -> io::Result<()> {
+        self.sync_all()
+    }
+}
+
+#[derive(Drop)]
+pub(super) struct KeptFile<F> {
+    name: FileName,
+    file: F,
+    awaits: Awaits,
+}
+
+impl<F: Settle + Drop> KeptFile<F> {
+    pub(super) fn new(name: FileName, file: F, awaits: Awaits) -> KeptFile<F>
+        ensures { result ≡ record { name = name; file = file; awaits = awaits } }
+    {
+        KeptFile { name, file, awaits }
+    }
+
+    /// Settles what it awaits.
+    fn sync(&mut self) -> io::Result<()>
+        ensures mark { FallsByAnswer F.synced self.old self.new }
+        ensures settled { OnOk result (AwaitsNothing self.new) }
+    {
+        match self.awaits {
+            Awaits::Nothing => return Ok(()),
+            Awaits::Data => self.file.settle_data()?,
+            Awaits::Everything => self.file.settle_everything()?,
+        }
+        self.awaits = Awaits::Nothing;
+        Ok(())
+    }
+
+    /// Writes, and awaits a sync even where that failed. A write whose end would pass 2^63 - 1 isn't tried.
+    fn write_at(&mut self, at: u64, piece: &[u8]) -> io::Result<()>
+        ensures name { self.new.name ≡ self.old.name }
+        ensures still { Covers self.new.awaits self.old.awaits }
+        ensures marked { at + length piece.now < 2 ^ 63 → Covers self.new.awaits Awaits.Data }
+        ensures fits { OnOk result (at + length piece.now < 2 ^ 63) }
+    {
+        if piece.len() as u64 > MAX_END || at > MAX_END - piece.len() as u64 {
+            return Err(io::ErrorKind::FileTooLarge.into());
+        }
+        if self.awaits == Awaits::Nothing {
+            self.awaits = Awaits::Data;
+        }
+        self.file.write_all_at(piece, at)
+    }
+
+    /// Cuts, and awaits a sync even where that failed.
+    fn cut(&mut self, to: u64) -> io::Result<()>
+        ensures name { self.new.name ≡ self.old.name }
+        ensures marked { self.new.awaits ≡ Awaits.Everything }
+    {
+        self.awaits = Awaits::Everything;
+        self.file.set_len(to)
+    }
+}
+
+fn sync_each<F: Settle + Drop>(files: &mut [KeptFile<F>]) -> io::Result<()>
+    ensures marks { EachPair (FallsByAnswer F.synced) files.old files.new }
+    ensures settled { OnOk result (All AwaitsNothing files.new) }
+{
+    for kept in files.iter_mut() {
+        kept.sync()?;
+    }
+    Ok(())
+}
+
+/// The open files of a directory, and whether its names await a sync too.
+#[derive(Drop)]
+pub(super) struct KeptFiles<F> {
+    folder: F,
+    files: Vec<KeptFile<F>>,
+    names_await: bool,
+}
+
+impl<F: Settle + Drop> KeptFiles<F> {
+    /// Those of a directory that is settled.
+    pub(super) fn new(alloc: Global, folder: F) -> KeptFiles<F>
+        ensures files { result.files.items ≡ [] }
+        ensures names { result.names_await ≡ false }
+    {
+        KeptFiles {
+            folder,
+            files: Vec::new(alloc),
+            names_await: false,
+        }
+    }
+
+    pub(super) fn place_of(&self, name: &FileName) -> Option<usize>
+        ensures { result ≡ position (λ kept. bytes_eq kept.name name.now) self.now.files.items }
+    {
+        self.files.iter().position(|kept| kept.name == *name)
+    }
+
+    pub(super) fn file(&self, place: usize) -> &F
+        requires { place < length self.now.files.items }
+    {
+        &self.files[place].file
+    }
+
+    /// Keeps an open file, and lets those go that await nothing where there are too many. Answers its place.
+    pub(super) fn keep(&mut self, opened: KeptFile<F>) -> io::Result<usize>
+        ensures kept { IfOk result (λ place. IsNamedAt opened.name place self.new.files.items) }
+        ensures marked { OnOk result (Awaiting opened.name opened.awaits self.new.files.items) }
+        ensures still { StillAwaits self.old.files.items self.new.files.items }
+        ensures names { self.new.names_await ≡ self.old.names_await }
+    {
+        if self.files.len() >= MAX_KEPT {
+            self.files.retain(|kept| kept.awaits != Awaits::Nothing);
+        }
+        let place = self.files.len();
+        self.files.push(opened)?;
+        Ok(place)
+    }
+
+    pub(super) fn write_at(&mut self, place: usize, at: u64, piece: &[u8]) -> io::Result<()>
+        requires { place < length self.old.files.items }
+        ensures marked { (name : List ℕ) → IsNamedAt name place self.old.files.items → OnOk result (Awaiting name Awaits.Data self.new.files.items) }
+        ensures still { StillAwaits self.old.files.items self.new.files.items }
+        ensures names { self.new.names_await ≡ self.old.names_await }
+    {
+        self.files[place].write_at(at, piece)
+    }
+
+    pub(super) fn cut(&mut self, place: usize, to: u64) -> io::Result<()>
+        requires { place < length self.old.files.items }
+        ensures marked { (name : List ℕ) → IsNamedAt name place self.old.files.items → Awaiting name Awaits.Everything self.new.files.items }
+        ensures still { StillAwaits self.old.files.items self.new.files.items }
+        ensures names { self.new.names_await ≡ self.old.names_await }
+    {
+        self.files[place].cut(to)
+    }
+
+    /// Notes that a name is made or taken away.
+    pub(super) fn note_names(&mut self)
+        ensures files { self.new.files.items ≡ self.old.files.items }
+        ensures names { self.new.names_await ≡ true }
+    {
+        self.names_await = true;
+    }
+
+    /// Lets the files of that name go, which isn't there any more.
+    pub(super) fn forget(&mut self, name: &FileName)
+        ensures files { self.new.files.items ≡ without name.now self.old.files.items }
+        ensures names { self.new.names_await ≡ self.old.names_await }
+    {
+        self.files.retain(|kept| kept.name != *name);
+    }
+
+    /// Follows a rename between two names.
+    pub(super) fn rename(&mut self, from: &FileName, to: &FileName)
+        ensures files { EachPair (λ before after. after ≡ renamed_file from.now to.now before) (without to.now self.old.files.items) self.new.files.items }
+        ensures names { self.new.names_await ≡ self.old.names_await }
+    {
+        self.forget(to);
+        for kept in self.files.iter_mut() {
+            if kept.name == *from {
+                kept.name = to.copy();
+            }
+        }
+    }
+
+    /// Settles each file that was made, written or cut since the last sync, and the names.
+    pub(super) fn sync(&mut self) -> io::Result<()>
+        ensures marks { EachPair (FallsByAnswer F.synced) self.old.files.items self.new.files.items }
+        ensures names { (self.new.names_await ≡ self.old.names_await) ⊎ ((self.new.names_await ≡ false) × F.synced Awaits.Everything self.old.folder) }
+        ensures settled { OnOk result (All AwaitsNothing self.new.files.items × (self.new.names_await ≡ false)) }
+    {
+        sync_each(&mut self.files)?;
+        if self.names_await {
+            self.folder.settle_everything()?;
+            self.names_await = false;
+        }
+        Ok(())
+    }
+}
