@@ -97,3 +97,60 @@ impl Names for NameTable {
         }
     }
 }
+
+#[cfg(test)]
+mod tests {
+    use super::*;
+    use name_core::Record;
+    use std::test::Fail;
+
+    /// Puts `/a`, `/a/b` and `/ab`, and `/a/b` again, with another time.
+    const PUTS: [u8; 101] = [
+        0x08, 0x80, 0xe4, 0x97, 0xd0, 0x12, 0x12, 0x15, 0x0a, 0x01, b'/', 0x12, 0x10, 0x12, 0x0e,
+        0x0a, 0x01, b'a', 0x10, 0x01, 0x22, 0x07, 0x10, 0x05, 0x18, 0xed, 0x03, 0x30, 0x05, 0x12,
+        0x16, 0x0a, 0x02, b'/', b'a', 0x12, 0x10, 0x12, 0x0e, 0x0a, 0x01, b'b', 0x10, 0x01, 0x22,
+        0x07, 0x10, 0x05, 0x18, 0xed, 0x03, 0x30, 0x05, 0x12, 0x16, 0x0a, 0x01, b'/', 0x12, 0x11,
+        0x12, 0x0f, 0x0a, 0x02, b'a', b'b', 0x10, 0x01, 0x22, 0x07, 0x10, 0x05, 0x18, 0xed, 0x03,
+        0x30, 0x05, 0x12, 0x16, 0x0a, 0x02, b'/', b'a', 0x12, 0x10, 0x12, 0x0e, 0x0a, 0x01, b'b',
+        0x10, 0x01, 0x22, 0x07, 0x10, 0x06, 0x18, 0xed, 0x03, 0x30, 0x05,
+    ];
+
+    /// Takes the changes of a record's text.
+    fn take(alloc: Global, names: &mut NameTable, text: &[u8]) -> Result<(), Fail> {
+        let record = Record::read(alloc, text)?;
+        names.reserve(record.changes.as_slice().len())?;
+        names.commit(record.changes);
+        Ok(())
+    }
+
+    /// Drops what is at a name in the root and below it.
+    fn drop_at(alloc: Global, names: &mut NameTable, name: &[u8]) -> Result<(), Fail> {
+        let mut changes = Vec::new(alloc);
+        changes.push(Change::Drop(Path::root(alloc).join_part(alloc, name)?))?;
+        names.reserve(1)?;
+        names.commit(RecordChanges::of(changes));
+        Ok(())
+    }
+
+    /// The time of the entry at a path.
+    fn time_at(alloc: Global, names: &mut NameTable, path: &[u8]) -> Result<Option<u64>, Fail> {
+        let path = Path::read(alloc, path)?;
+        let entry = names.find(alloc, &path)?;
+        Ok(entry.map(|entry| entry.attributes.mtime))
+    }
+
+    #[test]
+    fn the_last_change_of_a_path_counts(rt: HostRuntime) -> Result<(), Fail> {
+        let alloc = rt.alloc();
+        let mut names = NameTable::new(alloc);
+        assert_eq!(rt; time_at(alloc, &mut names, b"/a")?, None);
+        take(alloc, &mut names, &PUTS)?;
+        assert_eq!(rt; time_at(alloc, &mut names, b"/a")?, Some(5));
+        assert_eq!(rt; time_at(alloc, &mut names, b"/a/b")?, Some(6));
+        drop_at(alloc, &mut names, b"a")?;
+        assert_eq!(rt; time_at(alloc, &mut names, b"/a")?, None);
+        assert_eq!(rt; time_at(alloc, &mut names, b"/a/b")?, None);
+        assert_eq!(rt; time_at(alloc, &mut names, b"/ab")?, Some(5));
+        Ok(())
+    }
+}
