@@ -1,4 +1,4 @@
--- What a filer over a plain list of names keeps.
+-- What a filer over a table of names keeps.
 use Rattle.std.proofs.Common.{◌≡◌, ℕ, List, [], ◌∷◌, ◌++◌, Option, Some, None, Result, Ok, Err, refl, sym, ap, ◌∙◌}
 use Rattle.std.specs.Prelude.{IfSome}
 use Rattle.weed_base.specs.Files.{Files, BothTold}

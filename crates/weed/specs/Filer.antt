@@ -1,4 +1,4 @@
--- A filer over a plain list of names: its log, and the namespace that the log stands for.
+-- A filer over a table of names: its log, and the namespace that the log stands for.
 use Rattle.std.specs.Prelude.{◌≡◌, ◌⊎◌, List, [], ◌∷◌, ◌++◌, Option, IfSome, IsSomeAnd, Result, Ok, Err}
 use Rattle.weed_base.specs.Files.{Files}
 use Rattle.name_core.specs.declared.change.Record.{Record}

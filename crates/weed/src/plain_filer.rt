@@ -43,7 +43,7 @@ impl From<Failed> for MakeFault {
     }
 }
 
-/// The log of a disk, and the namespace that it stands for as a plain list.
+/// The log of a disk, and the namespace that it stands for, as a table in memory.
 #[derive(Debug, Drop)]
 pub struct PlainFiler {
     log: MetaLog,
