@@ -25,7 +25,7 @@ pub record LacksHead (bytes : List ℕ) : Type 0 where
   pub none : HasNoEndBelow bytes (length bytes)
   pub short : length bytes < 16384
 
--- a source was read once, as what had come ahead of it, of all the bytes that were left, lacked a head
+-- of all these bytes, those in front of what the source had left lacked a head, and it was read once
 pub record IsNeededRead {S : Type 0} (left : S → Option (List ℕ)) (reads : S → ℕ) (all : Option (List ℕ)) (old new : S) : Type 0 where
   pub ahead : List ℕ
   pub came : Consumes all (left old) ahead
