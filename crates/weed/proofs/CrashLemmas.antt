@@ -25,9 +25,10 @@ use Rattle.meta_log.proofs.RecordCrashes.{keeps_each}
 use Rattle.weed.specs.Handed.{IsSentAt, SendsAt}
 use Rattle.weed.specs.Settling.{IsOneOf, Settling, Tearing}
 use Rattle.weed.specs.Inbox.{NeedsReads}
-use Rattle.weed.specs.Session.{State, Answers, Turn, Turns, Steps, Rests, SendsUnlessCut, ReadsAlong, EndsAfter, LeadsTo, Stands, disk_answer, last_of, most_turns}
+use Rattle.weed.specs.Session.{State, Answers, Turn, Turns, Steps, Rests, SendsUnlessCut, ReadsAlong, ReadsNoMore, EndsAfter, LeadsTo, Stands, disk_answer, last_of, most_turns}
 use Rattle.weed.specs.Tells.{Leads, Ends}
 use Rattle.weed.specs.Crash.{IsPassed, IsOfRun, BeginsWith, KeepsFrom, Withstands}
+use Rattle.weed.proofs.InboxLemmas.{needs_nothing}
 use Rattle.weed.specs.declared.exit.Exit.{Exit}
 use Rattle.weed.specs.declared.exit.Exit.TheVariants as exit
 use Rattle.weed.specs.declared.session.Session.{Session}
@@ -327,3 +328,7 @@ pub reads-push : {S : Type 0} (left : S → Option (List ℕ)) (reads : S → �
     → ReadsAlong left reads old mid first path → NeedsReads left reads (Some (last_of first path).left) mid new → ReadsAlong left reads old new first (path ++ next ∷ [])
 reads-push left reads old mid new first [] next along needs = (new, subst (λ source. NeedsReads left reads (Some first.left) source new) along needs, refl)
 reads-push left reads old mid new first (step ∷ later) next along needs = (along.0, along.1, reads-push left reads along.0 mid new step later next along.2 needs)
+
+-- Nothing was read.
+pub reads_nothing : {S : Type 0} (left : S → Option (List ℕ)) (reads : S → ℕ) (source : S) (first : State) → ReadsNoMore left reads source source first []
+reads_nothing left reads source first = (source, refl, needs_nothing left reads (Some first.left) source)

@@ -1,5 +1,5 @@
 -- What an inbox holds after a read, and what it finds.
-use Rattle.std.proofs.Common.{◌≡◌, ℕ, suc, ◌+◌, ◌-◌, ◌<◌, ◌≤◌, List, [], ◌∷◌, ◌++◌, length, take, drop, codes, Option, Some, None, IfSome, refl, sym, ap, subst, ◌∙◌, arith, append_assoc, inl, inr, ◌⊎◌, ⊎_elim}
+use Rattle.std.proofs.Common.{◌≡◌, ◌≢◌, ℕ, suc, ◌+◌, ◌-◌, ◌<◌, ◌≤◌, List, [], ◌∷◌, ◌++◌, length, take, drop, codes, Option, Some, None, IfSome, refl, sym, ap, subst, ◌∙◌, arith, append_assoc, inl, inr, ◌⊎◌, ⊎_elim}
 use Rattle.std.specs.Option.{option_map}
 use Rattle.std.proofs.lemmas.Bool.{cases_lt}
 use Rattle.std.proofs.lemmas.List.{length-append, length-drop, take-append-drop, take-append-le, take_at, drop-drop, drop-take}
@@ -9,7 +9,7 @@ use Rattle.memchr.specs.Find.{OccursAt, Nowhere, NoneBefore}
 use Rattle.weed_base.specs.Told.{raised, Consumes, IsAtEnd}
 use Rattle.weed.specs.Request.{IsRequest, host_line}
 use Rattle.weed.specs.HeadEnd.{IsEndAt, HasNoEndBelow, IsHeadLength}
-use Rattle.weed.specs.Inbox.{InboxState, Finds, Takes, Adds, IsNoRequest, LacksHead, NeedsReads, left_of}
+use Rattle.weed.specs.Inbox.{InboxState, Finds, Takes, Adds, IsNoRequest, LacksHead, IsNeededRead, NeedsSoMany, NeedsReads, left_of}
 use Rattle.weed.specs.declared.inbox.Head.{Head}
 use Rattle.weed.specs.declared.inbox.Head.TheVariants.{End, Request, NotYet}
 use Rattle.weed.proofs.ListLemmas.{take-add}
@@ -176,7 +176,32 @@ none_more pending new left none grown place below stands =
     none place (omega arith) (sym (end-append pending left place (omega arith)) ∙ ap (λ xs. take 3 (drop place xs)) (sym grown) ∙ stands)
 
 -- one needed read more
-pub needs_more : {S : Type 0} (left : S → Option (List ℕ)) (reads : S → ℕ) (all : Option (List ℕ)) (old mid new : S) (ahead : List ℕ)
-    → NeedsReads left reads all old mid → left_of ahead (left mid) ≡ all → LacksHead ahead → reads new ≡ raised (reads mid)
+needed : {S : Type 0} (left : S → Option (List ℕ)) (reads : S → ℕ) (all : Option (List ℕ)) (mid new : S) (ahead : List ℕ)
+    → left_of ahead (left mid) ≡ all → LacksHead ahead → reads new ≡ raised (reads mid) → IsNeededRead left reads all mid new
+needed left reads all mid new ahead came lacks once = record { ahead = ahead; came = sym came; lacks = lacks; once = once }
+
+-- a read that gave bytes was before the end
+before_end : (bytes : List ℕ) (old new : Option (List ℕ)) (count : ℕ) → length bytes ≡ count → (count ≡ 0 → ⊥) → Consumes old new bytes → old ≢ Some []
+before_end [] old new count size some took ended = some (sym size)
+before_end (byte ∷ bytes) old None count size some took ended = let none : Some [] ≡ None = sym ended ∙ took in cc
+before_end (byte ∷ bytes) old (Some rest) count size some took ended = let none : Some [] ≡ Some (byte ∷ bytes ++ rest) = sym ended ∙ took in cc
+
+pub needs_more : {S : Type 0} (left : S → Option (List ℕ)) (reads : S → ℕ) (all : Option (List ℕ)) (old mid new : S) (ahead bytes : List ℕ) (gave : ℕ)
+    → (count : ℕ) × NeedsSoMany left reads all count old mid → left_of ahead (left mid) ≡ all → LacksHead ahead → reads new ≡ raised (reads mid)
+    → length bytes ≡ gave → (gave ≡ 0 → ⊥) → Consumes (left mid) (left new) bytes
+    → (count : ℕ) × NeedsSoMany left reads all count old new
+needs_more left reads all old mid new ahead bytes gave before came lacks once size some took =
+    (suc before.0, (mid, before.1, needed left reads all mid new ahead came lacks once, before_end bytes (left mid) (left new) gave size some took))
+
+-- the reads that were needed, and one more at the end of it
+pub needs_last : {S : Type 0} (left : S → Option (List ℕ)) (reads : S → ℕ) (all : Option (List ℕ)) (old mid new : S) (ahead : List ℕ)
+    → (count : ℕ) × NeedsSoMany left reads all count old mid → left_of ahead (left mid) ≡ all → LacksHead ahead → reads new ≡ raised (reads mid)
     → NeedsReads left reads all old new
-needs_more left reads all old mid new ahead before came lacks once = (suc before.0, (mid, before.1, record { ahead = ahead; came = sym came; lacks = lacks; once = once }))
+needs_last left reads all old mid new ahead before came lacks once = (before.0, mid, before.1, inr (needed left reads all mid new ahead came lacks once))
+
+pub needs_none : {S : Type 0} (left : S → Option (List ℕ)) (reads : S → ℕ) (all : Option (List ℕ)) (old new : S)
+    → (count : ℕ) × NeedsSoMany left reads all count old new → NeedsReads left reads all old new
+needs_none left reads all old new before = (before.0, new, before.1, inl refl)
+
+pub needs_nothing : {S : Type 0} (left : S → Option (List ℕ)) (reads : S → ℕ) (all : Option (List ℕ)) (source : S) → NeedsReads left reads all source source
+needs_nothing left reads all source = (0, source, refl, inl refl)

@@ -1,5 +1,5 @@
 -- The bytes that were read ahead of their use, and what stands at the front of all that is left.
-use Rattle.std.specs.Prelude.{◌≡◌, ◌≢◌, ℕ, zero, suc, ◌<◌, List, [], ◌++◌, length, take, drop, Option, IfSome}
+use Rattle.std.specs.Prelude.{◌≡◌, ◌≢◌, ◌⊎◌, ℕ, zero, suc, ◌<◌, List, [], ◌++◌, length, take, drop, Option, Some, IfSome}
 use Rattle.std.specs.Option.{option_map}
 use Rattle.weed_base.specs.Told.{raised, Consumes, IsAtEnd}
 use Rattle.weed.specs.HeadEnd.{HasNoEndBelow}
@@ -32,14 +32,16 @@ pub record IsNeededRead {S : Type 0} (left : S → Option (List ℕ)) (reads : S
   pub lacks : LacksHead ahead
   pub once : reads new ≡ raised (reads old)
 
--- it was read so often, each time so
+-- it was read so often, each time so, and each time before its end
 abbrev pub NeedsSoMany : {S : Type 0} → (S → Option (List ℕ)) → (S → ℕ) → Option (List ℕ) → ℕ → S → S → Type 0
 NeedsSoMany left reads all zero old new = new ≡ old
-NeedsSoMany {S = S} left reads all (suc count) old new = (mid : S) × NeedsSoMany left reads all count old mid × IsNeededRead left reads all mid new
+NeedsSoMany {S = S} left reads all (suc count) old new = (mid : S) × NeedsSoMany left reads all count old mid × IsNeededRead left reads all mid new × (left mid ≢ Some [])
 
--- it was read no more often than it took to tell what stands at the front of all the bytes that were left
+-- it was read no more often than it took to tell what stands at the front of all the bytes that were left: no read
+-- came behind one at the end
 abbrev pub NeedsReads : {S : Type 0} → (S → Option (List ℕ)) → (S → ℕ) → Option (List ℕ) → S → S → Type 0
-NeedsReads left reads all old new = (count : ℕ) × NeedsSoMany left reads all count old new
+NeedsReads {S = S} left reads all old new =
+    (count : ℕ) × (mid : S) × NeedsSoMany left reads all count old mid × ((new ≡ mid) ⊎ IsNeededRead left reads all mid new)
 
 -- what stood at the front of the bytes left: nothing, a request, which was taken, or something else
 abbrev pub Finds : Head → Option (List ℕ) → Option (List ℕ) → List ℕ → Type 0

@@ -6,6 +6,7 @@ use Rattle.meta_log.specs.declared.stem.Stem.TheVariants.{Log}
 use Rattle.weed.specs.Tells.{Ends}
 use Rattle.weed.proofs.RunLemmas.{found_log, begun_tells, early_stands, session_is_sound, session_has_words}
 use Rattle.weed.proofs.SessionLemmas.{same_rests}
+use Rattle.weed.proofs.CrashLemmas.{reads_nothing}
 use Rattle.weed.proofs.SurvivalLemmas.{log_told, own_is_sound, survives_early, survives_session}
 use Rattle.weed.proofs.run.filer_once.Goals as goal
 
@@ -58,7 +59,7 @@ returns-in-Err-clause-answers g c first starts =
             survives_early disk.tick disk.images disk.image_since disk.sent g.met.H.Disk.only_now g.met.H.Disk.counts_now old new own (c.in-Err.ensures.atomic log.0 log.1) c.in-Err.exit first first
             stands.sent_is,
       ),
-      (c.args.world.now.source, refl, (0, refl)),
+      reads_nothing g.S.Source.left g.S.Source.reads c.args.world.now.source first,
     )
 
 pub returns-in-Ok-clause-unreadable : goal.returns-in-Ok-clause-unreadable

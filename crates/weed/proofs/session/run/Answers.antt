@@ -1,4 +1,4 @@
-use Rattle.std.proofs.Common.{◌≡◌, ◌<◌, ◌+◌, ◌∙◌, ◌++◌, ◌∷◌, [], length, refl, sym, ap, subst, arith}
+use Rattle.std.proofs.Common.{Some, ◌≡◌, ◌<◌, ◌+◌, ◌∙◌, ◌++◌, ◌∷◌, [], length, refl, sym, ap, subst, arith}
 use Rattle.std.proofs.lemmas.List.{length_push}
 use Rattle.weed_base.specs.Told.{Rose}
 use Rattle.weed_base.specs.Sent.{bytes_sent}
@@ -7,6 +7,7 @@ use Rattle.weed.specs.Session.{State, Turn, last_of, most_turns}
 use Rattle.weed.specs.declared.exit.Exit.TheVariants.{DiskFault, ReadFault, WriteFault}
 use Rattle.weed.proofs.SessionLemmas.{rests, open_is_no_end}
 use Rattle.weed.specs.Tells.{Tells}
+use Rattle.weed.proofs.InboxLemmas.{needs_nothing}
 use Rattle.weed.proofs.CrashLemmas.{keeping_begins, keeping_more, last_of-push, steps-push, reads-push, ends_after, spent_ends}
 use Rattle.weed.proofs.session.run.Goals as goal
 
@@ -85,5 +86,5 @@ returns-clause-ends g c first tells =
           (c.loop-turn.session.inbox.pending, before.1.left_is),
       (before.2, all, refl),
       λ keep. spent_ends disk.tick disk.images disk.image_since disk.sent g.met.H.Disk.only_now c.args.world.now.host now first before.0 (before.4 keep) before.1.sent_is,
-      (c.loop-turn.world.source, before.5, (0, refl)),
+      (c.loop-turn.world.source, before.5, needs_nothing g.S.Source.left g.S.Source.reads (Some (last_of first before.0).left) c.loop-turn.world.source),
     )
