@@ -8,7 +8,7 @@ use Rattle.std.proofs.lemmas.List.Quantifiers.{any-set, Any-push, position-Some}
 use Rattle.std.proofs.lemmas.Slice.Eq.{bytes_eq-Decides}
 use Rattle.std.specs.List.{Any, filter, position}
 use Rattle.std.specs.Str.{bytes_eq}
-use Rattle.weed_base.specs.Awaiting.{Covers, Awaiting, StillAwaits, IsNamedAt, FallsByAnswer, EachPair, AwaitsNothing}
+use Rattle.weed_base.specs.Awaiting.{FileCall, AnsweredBy, Covers, Awaiting, StillAwaits, IsNamedAt, FallsByAnswer, EachPair, AwaitsNothing}
 use Rattle.weed_base.specs.declared.real.kept.Awaits.{Awaits}
 use Rattle.weed_base.specs.declared.real.kept.Awaits.TheVariants.{Nothing, Data, Everything}
 use Rattle.weed_base.specs.declared.real.kept.KeptFile.{KeptFile}
@@ -63,10 +63,10 @@ still_set {F} files place before kept within was same more name mark something (
       | inr other ↦ (k, x, grind (arith, common_steps), get_or-set_other files place k kept x other ∙ is, holds)
     ]
 
--- the file at a place is marked so
-pub marked_set : {F : Type 0} (files : List (KeptFile F)) (place : ℕ) (before kept : KeptFile F) (name : List ℕ) (mark : Awaits) → IsNamedAt name place files → before ≡ get_or files place before → kept.name ≡ before.name → Covers kept.awaits mark → Awaiting name mark (set files place kept)
-marked_set files place before kept name mark named was same covers =
-    any-set (λ y. (y.name ≡ name) × Covers y.awaits mark) files place kept named.0 (same ∙ ap (λ y. y.name) was ∙ named.1 before, covers)
+-- the file at a place is one of its name
+pub named_set : {F : Type 0} (P : KeptFile F → Type 0) (files : List (KeptFile F)) (place : ℕ) (before kept : KeptFile F) (name : List ℕ) → IsNamedAt name place files → before ≡ get_or files place before → kept.name ≡ before.name → P kept → Any (λ y. (y.name ≡ name) × P y) (set files place kept)
+named_set P files place before kept name named was same holds =
+    any-set (λ y. (y.name ≡ name) × P y) files place kept named.0 (same ∙ ap (λ y. y.name) was ∙ named.1 before, holds)
 
 -- one more file
 pub still_push : {F : Type 0} (files : List (KeptFile F)) (kept : KeptFile F) → StillAwaits files (files ++ kept ∷ [])
@@ -110,8 +110,8 @@ named_at_position [] name place is = absurd (cc is)
 named_at_position (some ∷ files) name place is = named_at (some ∷ files) some name place is
 
 -- a file that was not looked at
-pub falls_same : {F : Type 0} (synced : Awaits → F → Type 0) (kept : KeptFile F) → FallsByAnswer synced kept kept
-falls_same synced kept = record { name = refl; file = refl; mark = inl refl }
+pub falls_same : {F : Type 0} (answered : FileCall → F → Type 0) (kept : KeptFile F) → FallsByAnswer answered kept kept
+falls_same answered kept = record { name = refl; file = refl; mark = inl refl }
 
 -- what follows where a call answered Ok
 pub on_ok : {T E : Type 0} {P Q : Type 0} (answer : Result T E) → (P → Q) → OnOk answer P → OnOk answer Q
@@ -119,17 +119,17 @@ on_ok (Ok value) then holds = then holds
 on_ok (Err error) then holds = tt
 
 -- the first places were settled in turn, and one more
-pub falls_set : {F : Type 0} (synced : Awaits → F → Type 0) (before now : List (KeptFile F)) (i : ℕ) (old new : KeptFile F) → EachPair (FallsByAnswer synced) before now → ((k : ℕ) (d : KeptFile F) → i ≤ k → get_or now k d ≡ get_or before k d) → i < length now → old ≡ get_or now i old → FallsByAnswer synced old new → EachPair (FallsByAnswer synced) before (set now i new)
-falls_set {F} synced before now i old new pairs rest within was falls =
-    let each : (k : ℕ) (d : KeptFile F) → k < length before → FallsByAnswer synced (get_or before k d) (get_or (set now i new) k d) =
+pub falls_set : {F : Type 0} (answered : FileCall → F → Type 0) (before now : List (KeptFile F)) (i : ℕ) (old new : KeptFile F) → EachPair (FallsByAnswer answered) before now → ((k : ℕ) (d : KeptFile F) → i ≤ k → get_or now k d ≡ get_or before k d) → i < length now → old ≡ get_or now i old → FallsByAnswer answered old new → EachPair (FallsByAnswer answered) before (set now i new)
+falls_set {F} answered before now i old new pairs rest within was falls =
+    let each : (k : ℕ) (d : KeptFile F) → k < length before → FallsByAnswer answered (get_or before k d) (get_or (set now i new) k d) =
     λ k d below. elim (same_or_other k i) [
       | inl here ↦
           let stood : get_or now i d ≡ old = at_read now (λ y. y ≡ old) i old within was refl d in
           let first : old ≡ get_or before k d = sym stood ∙ ap (λ j. get_or now j d) (sym here) ∙ rest k d (omega (arith, here)) in
           let last : new ≡ get_or (set now i new) k d = sym (get_or-set_at now i k new d here within) in
-          subst (λ (y : KeptFile F). FallsByAnswer synced (get_or before k d) y) last (subst (λ (y : KeptFile F). FallsByAnswer synced y new) first falls)
+          subst (λ (y : KeptFile F). FallsByAnswer answered (get_or before k d) y) last (subst (λ (y : KeptFile F). FallsByAnswer answered y new) first falls)
       | inr other ↦
-          subst (λ (y : KeptFile F). FallsByAnswer synced (get_or before k d) y) (sym (get_or-set_other now i k new d other)) (pairs.1 k d below)
+          subst (λ (y : KeptFile F). FallsByAnswer answered (get_or before k d) y) (sym (get_or-set_other now i k new d other)) (pairs.1 k d below)
     ] in (length-set now i new ∙ pairs.0, each)
 
 -- the test of what awaits something

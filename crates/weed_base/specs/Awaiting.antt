@@ -28,17 +28,28 @@ StillAwaits old new = (name : List ℕ) (mark : Awaits) → mark ≢ Nothing →
 abbrev pub IsNamedAt : {F : Type 0} → List ℕ → ℕ → List (KeptFile F) → Type 0
 IsNamedAt {F} name place files = (place < length files) × ((d : KeptFile F) → (slice_index_or files place d).name ≡ name)
 
--- What a file awaited was asked of a sync of this kind, which answered Ok.
-abbrev pub IsAnswered : {F : Type 0} → (Awaits → F → Type 0) → Awaits → F → Type 0
-IsAnswered synced Nothing file = ⊤
-IsAnswered synced Data file = synced Data file
-IsAnswered synced Everything file = synced Everything file
+-- A call of a file: it wrote bytes at a place, cut the file to a length, or settled its data or all of it.
+pub data FileCall : Type 0 where
+  Wrote : ℕ → List ℕ → FileCall
+  CutTo : ℕ → FileCall
+  SettledData : FileCall
+  SettledAll : FileCall
 
--- The file is the same, and its mark stays or falls to nothing, but falls only where it was answered.
-pub record FallsByAnswer {F : Type 0} (synced : Awaits → F → Type 0) (before after : KeptFile F) : Type 0 where
+-- An open file of that name answered that call with Ok.
+abbrev pub AnsweredBy : {F : Type 0} → (FileCall → F → Type 0) → FileCall → List ℕ → List (KeptFile F) → Type 0
+AnsweredBy answered call name files = Any (λ kept. (kept.name ≡ name) × answered call kept.file) files
+
+-- What a file awaited was asked of a sync of that kind, which answered Ok.
+abbrev pub IsSettled : {F : Type 0} → (FileCall → F → Type 0) → Awaits → F → Type 0
+IsSettled answered Nothing file = ⊤
+IsSettled answered Data file = answered SettledData file
+IsSettled answered Everything file = answered SettledAll file
+
+-- The file is the same, and its mark stays, or falls to nothing by an answer.
+pub record FallsByAnswer {F : Type 0} (answered : FileCall → F → Type 0) (before after : KeptFile F) : Type 0 where
   pub name : after.name ≡ before.name
   pub file : after.file ≡ before.file
-  pub mark : (after.awaits ≡ before.awaits) ⊎ ((after.awaits ≡ Nothing) × IsAnswered synced before.awaits before.file)
+  pub mark : (after.awaits ≡ before.awaits) ⊎ ((after.awaits ≡ Nothing) × IsSettled answered before.awaits before.file)
 
 -- The relation holds of each two in the same place of two lists of one length.
 abbrev pub EachPair : {X : Type 0} → (X → X → Type 0) → List X → List X → Type 0

@@ -1,10 +1,10 @@
 //! A directory of the system, and its open files. Nothing here counts faults.
 ghost use Rattle.std.specs.Prelude.{◌≡◌, ◌≢◌, ◌≤◌, ◌⊎◌, [], length, true, false, not, IfOk, IfSome, OnOk, OnErr};
 ghost use Rattle.std.specs.List.{All};
-ghost use Rattle.weed_base.specs.Awaiting.{Awaiting, StillAwaits, IsNamedAt, AwaitsNothing, EachPair, FallsByAnswer, without, renamed_file};
+ghost use Rattle.weed_base.specs.Awaiting.{Wrote, CutTo, SettledAll, AnsweredBy, Awaiting, StillAwaits, IsNamedAt, AwaitsNothing, EachPair, FallsByAnswer, without, renamed_file};
 
 use crate::file_name::FileName;
-use crate::real::kept::{Awaits, KeptFile, KeptFiles, MAX_END, Settle};
+use crate::real::kept::{Awaits, KeptFile, KeptFiles, MAX_END, SystemFile};
 use std::alloc::{AllocGlobal, Global};
 use std::fs::{File, OpenOptions};
 use std::os::unix::fs::FileExt;
@@ -13,7 +13,7 @@ use std::rt::Files;
 use std::{fs, io, str};
 
 /// Reads until the room is full or the file ends.
-fn read_full(file: &File, at: u64, room: &mut [u8]) -> io::Result<usize>
+fn read_full(file: &impl FileExt, at: u64, room: &mut [u8]) -> io::Result<usize>
     ensures { IfOk result (λ count. count ≤ length room.new) }
 {
     let mut count = 0;
@@ -34,19 +34,19 @@ fn read_full(file: &File, at: u64, room: &mut [u8]) -> io::Result<usize>
 
 /// Makes the directory where it isn't there, and settles its name: an earlier process may have been stopped
 /// before it did.
-fn make_folder(rt: &impl Files<File = File>, place: &str) -> io::Result<()> {
+fn make_folder<F: SystemFile + Drop>(rt: &impl Files<File = F>, place: &str) -> io::Result<()> {
     match fs::create_dir(rt, place) {
         Err(error) if error.kind() != io::ErrorKind::AlreadyExists => Err(error),
         _ => sync_parent(rt, place),
     }
 }
 
-fn sync_parent(rt: &impl Files<File = File>, place: &str) -> io::Result<()> {
+fn sync_parent<F: SystemFile + Drop>(rt: &impl Files<File = F>, place: &str) -> io::Result<()> {
     let parent = Path::new(place)
         .parent()
         .map_or("", |parent| parent.as_str());
     let parent = if parent.is_empty() { "." } else { parent };
-    File::open(rt, parent)?.sync_all()
+    File::open(rt, parent)?.settle_all()
 }
 
 /// The path of a file in the directory at that path.
@@ -56,7 +56,7 @@ fn path_in(rt: &impl AllocGlobal, path: &str, name: &FileName) -> io::Result<Str
 }
 
 /// The names of files in the directory at that path, in byte order. Other names are left out.
-fn names_in<R: Files<File = File> + AllocGlobal + Clone>(
+fn names_in<R: Files + AllocGlobal + Clone>(
     rt: &R,
     path: &str,
     alloc: Global,
@@ -76,16 +76,16 @@ fn names_in<R: Files<File = File> + AllocGlobal + Clone>(
 
 /// An attached directory.
 #[derive(Drop)]
-pub(crate) struct Folder<R> {
+pub(crate) struct Folder<R, F = File> {
     rt: R,
     path: String,
-    kept: KeptFiles<File>,
+    kept: KeptFiles<F>,
 }
 
-impl<R: Files<File = File> + AllocGlobal + Clone + Drop> Folder<R> {
+impl<F: SystemFile + Drop, R: Files<File = F> + AllocGlobal + Clone + Drop> Folder<R, F> {
     /// Opens a directory, which is made where it isn't there, and settles it, since an earlier process may
     /// have left it unsettled.
-    pub(crate) fn open(rt: R, place: &[u8]) -> io::Result<Folder<R>>
+    pub(crate) fn open(rt: R, place: &[u8]) -> io::Result<Folder<R, F>>
         ensures files { IfOk result (λ folder. folder.kept.files.items ≡ []) }
         ensures names { IfOk result (λ folder. folder.kept.names_await ≡ false) }
     {
@@ -93,9 +93,9 @@ impl<R: Files<File = File> + AllocGlobal + Clone + Drop> Folder<R> {
         make_folder(&rt, place)?;
         let folder = File::open(&rt, place)?;
         for name in names_in(&rt, place, rt.alloc())? {
-            File::open(&rt, path_in(&rt, place, &name)?)?.sync_all()?;
+            File::open(&rt, path_in(&rt, place, &name)?)?.settle_all()?;
         }
-        folder.sync_all()?;
+        folder.settle_all()?;
         Ok(Folder {
             path: String::from_str(rt.alloc(), place)?,
             kept: KeptFiles::new(rt.alloc(), folder),
@@ -113,7 +113,7 @@ impl<R: Files<File = File> + AllocGlobal + Clone + Drop> Folder<R> {
     }
 
     /// Opens a file that is there.
-    fn open_existing(&self, name: &FileName) -> io::Result<Option<File>> {
+    fn open_existing(&self, name: &FileName) -> io::Result<Option<F>> {
         let path = self.path_of(name)?;
         let opened = OpenOptions::new()
             .read(true)
@@ -165,6 +165,7 @@ impl<R: Files<File = File> + AllocGlobal + Clone + Drop> Folder<R> {
     }
 
     pub(crate) fn write_at(&mut self, name: &FileName, at: u64, piece: &[u8]) -> io::Result<()>
+        ensures written { OnOk result (AnsweredBy F.answered (Wrote at piece.now) name.now self.new.kept.files.items) }
         ensures marked { OnOk result (Awaiting name.now Awaits.Data self.new.kept.files.items) }
         ensures still { StillAwaits self.old.kept.files.items self.new.kept.files.items }
         ensures names { self.new.kept.names_await ≡ self.old.kept.names_await }
@@ -176,6 +177,7 @@ impl<R: Files<File = File> + AllocGlobal + Clone + Drop> Folder<R> {
     }
 
     pub(crate) fn cut(&mut self, name: &FileName, to: u64) -> io::Result<()>
+        ensures cut { OnOk result (AnsweredBy F.answered (CutTo to) name.now self.new.kept.files.items) }
         ensures marked { OnOk result (Awaiting name.now Awaits.Everything self.new.kept.files.items) }
         ensures still { StillAwaits self.old.kept.files.items self.new.kept.files.items }
         ensures names { self.new.kept.names_await ≡ self.old.kept.names_await }
@@ -243,7 +245,8 @@ impl<R: Files<File = File> + AllocGlobal + Clone + Drop> Folder<R> {
 
     /// Settles each file that was made, written or cut since the last sync, and the names.
     pub(crate) fn sync(&mut self) -> io::Result<()>
-        ensures marks { EachPair (FallsByAnswer ⟦<File as Settle>⟧.synced) self.old.kept.files.items self.new.kept.files.items }
+        ensures marks { EachPair (FallsByAnswer F.answered) self.old.kept.files.items self.new.kept.files.items }
+        ensures names { (self.new.kept.names_await ≡ self.old.kept.names_await) ⊎ ((self.new.kept.names_await ≡ false) × F.answered SettledAll self.old.kept.folder) }
         ensures settled { OnOk result (All AwaitsNothing self.new.kept.files.items × (self.new.kept.names_await ≡ false)) }
     {
         self.kept.sync()

@@ -2,7 +2,7 @@
 ghost use Rattle.std.specs.Prelude.{◌≡◌, ◌≢◌, ◌<◌, ◌+◌, ◌^◌, ◌⊎◌, ℕ, List, [], ⊤, length, slice_index_or, true, false, IsTrue, IsFalse, IfOk, IfSome, OnOk, OnErr};
 ghost use Rattle.std.specs.List.{All, position};
 ghost use Rattle.std.specs.Str.{bytes_eq};
-ghost use Rattle.weed_base.specs.Awaiting.{Covers, Awaiting, StillAwaits, IsNamedAt, FallsByAnswer, EachPair, AwaitsNothing, without, renamed_file, renamed_files};
+ghost use Rattle.weed_base.specs.Awaiting.{FileCall, Wrote, CutTo, SettledData, SettledAll, AnsweredBy, Covers, Awaiting, StillAwaits, IsNamedAt, FallsByAnswer, EachPair, AwaitsNothing, without, renamed_file, renamed_files};
 ghost use Rattle.weed_base.specs.declared.real.kept.Awaits.{Awaits};
 ghost use Rattle.weed_base.specs.declared.real.kept.Awaits.TheVariants.{Nothing, Data, Everything};
 
@@ -28,29 +28,44 @@ pub(super) enum Awaits {
     Everything,
 }
 
-/// A file that is settled by its syncs. What the system settled no contract can see; that a sync was called
-/// and answered Ok, generic code has from these calls alone.
-pub(super) trait Settle: OpenFile + FileExt {
-    /// A sync of that kind answered Ok.
-    ghost synced: { Awaits → Self → Type 0 };
+/// A file of the system. What a call did no contract can see; that it was made and answered Ok, generic code
+/// has from these calls alone.
+pub(super) trait SystemFile: OpenFile + FileExt {
+    /// That call of it answered Ok.
+    ghost answered: { FileCall → Self → Type 0 };
+
+    /// Writes all of the piece.
+    fn write_piece(&self, at: u64, piece: &[u8]) -> io::Result<()>
+        ensures { OnOk result (answered (Wrote at piece.now) self.now) };
+
+    fn cut(&self, to: u64) -> io::Result<()>
+        ensures { OnOk result (answered (CutTo to) self.now) };
 
     /// Settles the bytes, and the length.
     fn settle_data(&self) -> io::Result<()>
-        ensures { OnOk result (synced Awaits.Data self.now) };
+        ensures { OnOk result (answered SettledData self.now) };
 
     /// Settles all of the file, and of a directory the names.
-    fn settle_everything(&self) -> io::Result<()>
-        ensures { OnOk result (synced Awaits.Everything self.now) };
+    fn settle_all(&self) -> io::Result<()>
+        ensures { OnOk result (answered SettledAll self.now) };
 }
 
-impl Settle for File {
-    ghost synced = { λ _ _. ⊤ };
+impl SystemFile for File {
+    ghost answered = { λ _ _. ⊤ };
+
+    fn write_piece(&self, at: u64, piece: &[u8]) -> io::Result<()> {
+        self.write_all_at(piece, at)
+    }
+
+    fn cut(&self, to: u64) -> io::Result<()> {
+        self.set_len(to)
+    }
 
     fn settle_data(&self) -> io::Result<()> {
         self.sync_data()
     }
 
-    fn settle_everything(&self) -> io::Result<()> {
+    fn settle_all(&self) -> io::Result<()> {
         self.sync_all()
     }
 }
@@ -62,7 +77,7 @@ pub(super) struct KeptFile<F> {
     awaits: Awaits,
 }
 
-impl<F: Settle + Drop> KeptFile<F> {
+impl<F: SystemFile + Drop> KeptFile<F> {
     pub(super) fn new(name: FileName, file: F, awaits: Awaits) -> KeptFile<F>
         ensures { result ≡ record { name = name; file = file; awaits = awaits } }
     {
@@ -71,13 +86,13 @@ impl<F: Settle + Drop> KeptFile<F> {
 
     /// Settles what it awaits.
     fn sync(&mut self) -> io::Result<()>
-        ensures mark { FallsByAnswer F.synced self.old self.new }
+        ensures mark { FallsByAnswer F.answered self.old self.new }
         ensures settled { OnOk result (AwaitsNothing self.new) }
     {
         match self.awaits {
             Awaits::Nothing => return Ok(()),
             Awaits::Data => self.file.settle_data()?,
-            Awaits::Everything => self.file.settle_everything()?,
+            Awaits::Everything => self.file.settle_all()?,
         }
         self.awaits = Awaits::Nothing;
         Ok(())
@@ -89,6 +104,8 @@ impl<F: Settle + Drop> KeptFile<F> {
         ensures still { Covers self.new.awaits self.old.awaits }
         ensures marked { at + length piece.now < 2 ^ 63 → Covers self.new.awaits Awaits.Data }
         ensures fits { OnOk result (at + length piece.now < 2 ^ 63) }
+        ensures file { self.new.file ≡ self.old.file }
+        ensures written { OnOk result (F.answered (Wrote at piece.now) self.old.file) }
     {
         if piece.len() as u64 > MAX_END || at > MAX_END - piece.len() as u64 {
             return Err(io::ErrorKind::FileTooLarge.into());
@@ -96,21 +113,23 @@ impl<F: Settle + Drop> KeptFile<F> {
         if self.awaits == Awaits::Nothing {
             self.awaits = Awaits::Data;
         }
-        self.file.write_all_at(piece, at)
+        self.file.write_piece(at, piece)
     }
 
     /// Cuts, and awaits a sync even where that failed.
     fn cut(&mut self, to: u64) -> io::Result<()>
         ensures name { self.new.name ≡ self.old.name }
         ensures marked { self.new.awaits ≡ Awaits.Everything }
+        ensures file { self.new.file ≡ self.old.file }
+        ensures cut { OnOk result (F.answered (CutTo to) self.old.file) }
     {
         self.awaits = Awaits::Everything;
-        self.file.set_len(to)
+        self.file.cut(to)
     }
 }
 
-fn sync_each<F: Settle + Drop>(files: &mut [KeptFile<F>]) -> io::Result<()>
-    ensures marks { EachPair (FallsByAnswer F.synced) files.old files.new }
+fn sync_each<F: SystemFile + Drop>(files: &mut [KeptFile<F>]) -> io::Result<()>
+    ensures marks { EachPair (FallsByAnswer F.answered) files.old files.new }
     ensures settled { OnOk result (All AwaitsNothing files.new) }
 {
     for kept in files.iter_mut() {
@@ -127,7 +146,7 @@ pub(super) struct KeptFiles<F> {
     names_await: bool,
 }
 
-impl<F: Settle + Drop> KeptFiles<F> {
+impl<F: SystemFile + Drop> KeptFiles<F> {
     /// Those of a directory that is settled.
     pub(super) fn new(alloc: Global, folder: F) -> KeptFiles<F>
         ensures files { result.files.items ≡ [] }
@@ -170,6 +189,7 @@ impl<F: Settle + Drop> KeptFiles<F> {
     pub(super) fn write_at(&mut self, place: usize, at: u64, piece: &[u8]) -> io::Result<()>
         requires { place < length self.old.files.items }
         ensures marked { (name : List ℕ) → IsNamedAt name place self.old.files.items → OnOk result (Awaiting name Awaits.Data self.new.files.items) }
+        ensures written { (name : List ℕ) → IsNamedAt name place self.old.files.items → OnOk result (AnsweredBy F.answered (Wrote at piece.now) name self.new.files.items) }
         ensures still { StillAwaits self.old.files.items self.new.files.items }
         ensures names { self.new.names_await ≡ self.old.names_await }
     {
@@ -179,6 +199,7 @@ impl<F: Settle + Drop> KeptFiles<F> {
     pub(super) fn cut(&mut self, place: usize, to: u64) -> io::Result<()>
         requires { place < length self.old.files.items }
         ensures marked { (name : List ℕ) → IsNamedAt name place self.old.files.items → Awaiting name Awaits.Everything self.new.files.items }
+        ensures cut { (name : List ℕ) → IsNamedAt name place self.old.files.items → OnOk result (AnsweredBy F.answered (CutTo to) name self.new.files.items) }
         ensures still { StillAwaits self.old.files.items self.new.files.items }
         ensures names { self.new.names_await ≡ self.old.names_await }
     {
@@ -216,13 +237,13 @@ impl<F: Settle + Drop> KeptFiles<F> {
 
     /// Settles each file that was made, written or cut since the last sync, and the names.
     pub(super) fn sync(&mut self) -> io::Result<()>
-        ensures marks { EachPair (FallsByAnswer F.synced) self.old.files.items self.new.files.items }
-        ensures names { (self.new.names_await ≡ self.old.names_await) ⊎ ((self.new.names_await ≡ false) × F.synced Awaits.Everything self.old.folder) }
+        ensures marks { EachPair (FallsByAnswer F.answered) self.old.files.items self.new.files.items }
+        ensures names { (self.new.names_await ≡ self.old.names_await) ⊎ ((self.new.names_await ≡ false) × F.answered SettledAll self.old.folder) }
         ensures settled { OnOk result (All AwaitsNothing self.new.files.items × (self.new.names_await ≡ false)) }
     {
         sync_each(&mut self.files)?;
         if self.names_await {
-            self.folder.settle_everything()?;
+            self.folder.settle_all()?;
             self.names_await = false;
         }
         Ok(())

@@ -2,6 +2,7 @@ use super::{DirHost, ReaderSource, SystemClock, WriterSink};
 use crate::trials::{fill, moment, name, read, send, write, write_at};
 use crate::{Disk, Failed, Word};
 use std::fs;
+use std::io::Cursor;
 use std::test::Fail;
 
 #[test]
@@ -10,6 +11,9 @@ fn a_reader_and_a_writer_are_passed_through(rt: HostRuntime) -> Result<(), Fail>
     let mut room = [0; 2];
     assert_eq!(rt; read(&mut source, &mut room), Ok(2));
     assert_eq!(rt; room.as_slice(), b"ab".as_slice());
+    let mut later = ReaderSource::new(Cursor::new(Vec::from_slice(rt.alloc(), b"c")?));
+    assert_eq!(rt; read(&mut later, &mut room), Ok(1));
+    assert_eq!(rt; read(&mut later, &mut room), Ok(0));
     let mut sink = WriterSink::new(Vec::new(rt.alloc()));
     assert_eq!(rt; write(&mut sink, &room), Ok(2));
     let mut full = WriterSink::new(room.as_mut_slice());

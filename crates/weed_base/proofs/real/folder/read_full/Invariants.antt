@@ -2,7 +2,7 @@ use Rattle.std.proofs.Common.{length, ◌-◌, ◌≤◌}
 use Rattle.weed_base.proofs.real.folder.read_full.Given as goal
 
 abbrev pub invariant-loop-count : goal.invariant-loop-count
-invariant-loop-count l = l.count ≤ length l.room
+invariant-loop-count g l = l.count ≤ length l.room
 
 abbrev pub decreases-loop-count : goal.decreases-loop-count
-decreases-loop-count l = length l.initial.room - l.count
+decreases-loop-count g l = length l.initial.room - l.count

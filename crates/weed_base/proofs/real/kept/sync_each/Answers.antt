@@ -5,12 +5,12 @@ use Rattle.weed_base.proofs.real.kept.sync_each.Goals as goal
 
 pub returns-in_err-sync-clause-marks : goal.returns-in_err-sync-clause-marks
 returns-in_err-sync-clause-marks g c =
-    falls_set g.F.Settle.synced _ c.loop-kept.files c.loop-kept.kept-index _ c.sync.new.self c.loop-kept.invariant.0 c.loop-kept.invariant.2 (omega arith)
+    falls_set g.F.SystemFile.answered _ c.loop-kept.files c.loop-kept.kept-index _ c.sync.new.self c.loop-kept.invariant.0 c.loop-kept.invariant.2 (omega arith)
     (ap (λ item. get_or c.loop-kept.files c.loop-kept.kept-index item) c.kept-item.is) c.sync.ensures.mark
 
 pub loop-kept-preserved : goal.loop-kept-preserved
 loop-kept-preserved g c = (
-  falls_set g.F.Settle.synced _ c.loop-kept.files c.loop-kept.kept-index _ c.sync.new.self c.loop-kept.invariant.0 c.loop-kept.invariant.2 (omega arith)
+  falls_set g.F.SystemFile.answered _ c.loop-kept.files c.loop-kept.kept-index _ c.sync.new.self c.loop-kept.invariant.0 c.loop-kept.invariant.2 (omega arith)
       (ap (λ item. get_or c.loop-kept.files c.loop-kept.kept-index item) c.kept-item.is) c.sync.ensures.mark,
   nothing_set c.loop-kept.files c.loop-kept.kept-index c.sync.new.self (omega arith) c.loop-kept.invariant.1 c.in_ok-sync.ensures.settled,
   λ k d above. grind (arith, common_steps, c.loop-kept.invariant.2 k d),

@@ -5,6 +5,6 @@ use Rattle.weed_base.proofs.real.kept.sync_each.Given as goal
 
 abbrev pub invariant-loop-kept : goal.invariant-loop-kept
 invariant-loop-kept g l =
-    EachPair (FallsByAnswer g.F.Settle.synced) l.initial.files l.files
+    EachPair (FallsByAnswer g.F.SystemFile.answered) l.initial.files l.files
     × ((k : ℕ) (d : KeptFile g.row.F.Denot) → k < l.kept-index → AwaitsNothing (get_or l.files k d))
     × ((k : ℕ) (d : KeptFile g.row.F.Denot) → l.kept-index ≤ k → get_or l.files k d ≡ get_or l.initial.files k d)
