@@ -53,6 +53,10 @@ join_fault parts name =
     ∷ text_fault (spelled joined) joined
     ∷ [])
 
+-- Of a name in the directory of a text
+abbrev pub read_in_fault : List ℕ → List ℕ → Option PathFault
+read_in_fault directory name = first_fault (read_fault directory ∷ join_fault (parts_in directory) name ∷ [])
+
 -- A fault as it stands in answers
 abbrev pub path_fault_name : PathFault → List ℕ
 path_fault_name NotAbsolute = codes "NotAbsolute"

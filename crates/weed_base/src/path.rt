@@ -1,8 +1,8 @@
 ghost use Rattle.std.specs.Prelude.{◌≡◌, ◌≤◌, ◌<◌, ◌+◌, ◌++◌, ◌∷◌, [], ℕ, List, None, length, take, drop, IfOk, IfSome, MatchOption, option_copied, ◌≢◌, All, slice_index, IsTrue, ◌↔◌, ◌⊎◌, IsOkUnless};
 ghost use Rattle.std.specs.List.{last_or};
 ghost use Rattle.std.specs.Str.{IsUtf8};
-ghost use Rattle.weed_base.specs.Path.{IsPath, IsBelow, spelled, text_of, parts_of, parent_of};
-ghost use Rattle.weed_base.specs.PathFaults.{read_fault, join_fault};
+ghost use Rattle.weed_base.specs.Path.{IsPath, IsBelow, spelled, text_of, parts_in, parts_of, parent_of};
+ghost use Rattle.weed_base.specs.PathFaults.{read_fault, read_in_fault, join_fault};
 ghost use Rattle.weed_base.specs.PathOrder.{same_path, same_path-exact, path_cmp_total};
 ghost use Rattle.std.specs.Cmp.{partial_equiv_from_equiv, eq_by_cmp_equiv};
 ghost use Rattle.std.proofs.Common.{ap};
@@ -84,6 +84,23 @@ impl Path {
             return Ok(Path::root(alloc));
         }
         Ok(Path::of_spelling(alloc, text)?)
+    }
+
+    /// The path of a name in the directory of a text. Takes memory once.
+    pub fn read_in(alloc: Global, directory: &[u8], name: &[u8]) -> Result<Path, PathFault>
+        ensures found { IfOk result (λ path. IsPath path × (path ≡ parts_in directory.now ++ name.now ∷ [])) }
+        ensures refused { MatchOption (read_in_fault directory.now name.now) (IsOkUnless result PathFault.Memory) (λ fault. result ≡ Err fault) }
+    {
+        if let Some(fault) = fault_of_text(directory) {
+            return Err(fault);
+        }
+        let bytes = spelling_of(directory);
+        if let Some(fault) = fault_of_join(bytes, name) {
+            return Err(fault);
+        }
+        Ok(Path {
+            bytes: spelling_with(alloc, bytes, name)?,
+        })
     }
 
     /// The path with one part more.
@@ -214,6 +231,16 @@ impl Path {
 pub fn one_text_each()
     ensures { (a b : List (List ℕ)) → IsPath a → IsPath b → text_of a ≡ text_of b → a ≡ b }
 {}
+
+/// The spelling of the path of a text, which has no fault.
+fn spelling_of(text: &[u8]) -> &[u8]
+    requires { read_fault text.now ≡ None }
+    ensures parts { parts_of result.now ≡ parts_in text.now }
+    ensures spelling { spelled (parts_of result.now) ≡ result.now }
+    ensures path { IsPath (parts_of result.now) }
+{
+    if text.len() == 1 { &[] } else { text }
+}
 
 /// These bytes, a slash and the name.
 fn spelling_with(alloc: Global, bytes: &[u8], name: &[u8]) -> Result<Vec<u8>, AllocError>
