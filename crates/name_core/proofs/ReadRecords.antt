@@ -1,5 +1,5 @@
 -- What is read is a record that can be written.
-use Rattle.std.proofs.Common.{◌≡◌, ◌≢◌, ℕ, ◌≤◌, Bool, true, false, cond, List, [], ◌∷◌, ◌++◌, length, Option, None, Some, Result, Ok, Err, refl, sym, ap, subst, arith, leb, All}
+use Rattle.std.proofs.Common.{◌≡◌, ◌≢◌, ℕ, ◌≤◌, Bool, true, false, cond, List, [], ◌∷◌, ◌++◌, length, Option, None, Some, Result, Ok, Err, refl, ap, subst, arith, leb, All}
 use Rattle.std.specs.Prelude.{IfSome, IfOk, option_map, option_and_then, ok_or, is_none}
 use Rattle.std.specs.List.{AllByRecursion}
 use Rattle.std.specs.Cmp.{first_so, second_so}
@@ -7,8 +7,8 @@ use Rattle.std.proofs.lemmas.Bool.{leb-true}
 use Rattle.std.proofs.lemmas.List.Elements.{All-from_recursion, All-weaker}
 use Rattle.std.proofs.lemmas.Option.{none-some, same_Some}
 use Rattle.proto_wire.specs.declared.fault.WireFault.{WireFault}
-use Rattle.proto_wire.specs.Field.{◌>>=◌, FieldText}
-use Rattle.proto_wire.specs.Taken.{messages_at}
+use Rattle.proto_wire.specs.Field.{◌>>=◌, FieldText, fields_of}
+use Rattle.proto_wire.specs.Taken.{last_number, messages_at}
 use Rattle.proto_wire.proofs.Grammar.{ok_is, bind_ok}
 use Rattle.weed_base.specs.PathFaults.{join_fault}
 use Rattle.name_core.specs.declared.change.Change.{Change}
@@ -22,7 +22,7 @@ use Rattle.name_core.specs.Namespace.{path_of}
 use Rattle.name_core.specs.Log.{end_of_time}
 use Rattle.name_core.specs.Messages.{AttributesText}
 use Rattle.name_core.specs.RecordText.{HasValidEntry, CanBeWritten}
-use Rattle.name_core.specs.RecordReading.{are_good, is_entry, entry_of, path_read, path_with, path_in, directory_put, directory_of_new, stays, if_stays, change_of, event_at, change_at, each_change_at, all_of, or_wire, changes_in, record_with}
+use Rattle.name_core.specs.RecordReading.{are_good, is_entry, entry_of, path_read, path_with, path_in, directory_put, directory_of_new, stays, if_stays, change_of, event_at, change_at, each_change_at, all_of, or_wire, changes_in, record_with, record_from, record_of, Reads}
 use Rattle.name_core.proofs.Paths.{filled-append}
 
 -- A change that a record may have
@@ -131,6 +131,17 @@ record_can_be_written time changes good =
       valid = All-weaker IsGood HasValidEntry (λ change is. is.valid) changes good;
     })
 
--- A record of changes that were read can be written.
-pub can_be_written : (fields : List FieldText) (time : ℕ) (changes : List Change) (result : Result Record RecordFault) → changes_in fields ≡ Ok changes → result ≡ record_with time changes → IfOk result CanBeWritten
-can_be_written fields time changes result read is = subst (λ r. IfOk r CanBeWritten) (sym is) (record_can_be_written time changes (changes_are_good fields changes read))
+from_ok : (time : ℕ) (read : Result (List Change) RecordFault) (r : Record) → record_from time read ≡ Ok r → (changes : List Change) × (read ≡ Ok changes) × (record_with time changes ≡ Ok r)
+from_ok time (Ok changes) r is = (changes, refl, is)
+from_ok time (Err fault) r is = absurd cc
+
+-- A record that a text is read as can be written.
+pub can_be_written : (text : List ℕ) (r : Record) → record_of text ≡ Ok r → CanBeWritten r
+can_be_written text r is =
+    let whole : (fields : List FieldText) × (fields_of text ≡ Ok fields) × (record_from (last_number 1 fields) (changes_in fields) ≡ Ok r) = wire_ok (fields_of text) _ r is in
+    let read = from_ok (last_number 1 whole.0) (changes_in whole.0) r whole.2 in
+    subst (λ made. IfOk made CanBeWritten) read.2 (record_can_be_written (last_number 1 whole.0) read.0 (changes_are_good whole.0 read.0 read.1))
+
+pub read_can_be_written : (text : List ℕ) (result : Result Record RecordFault) → Reads (record_of text) result → IfOk result CanBeWritten
+read_can_be_written text (Ok r) reads = can_be_written text r reads
+read_can_be_written text (Err fault) reads = tt

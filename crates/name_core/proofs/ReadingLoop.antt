@@ -1,6 +1,10 @@
 -- The changes of a record, one event after another.
-use Rattle.std.proofs.Common.{◌≡◌, ℕ, Bool, true, false, cond, List, [], ◌∷◌, ◌++◌, Option, None, Some, Result, Ok, Err, refl, sym, ap, ◌∙◌, subst, append_assoc, append-nil}
-use Rattle.std.specs.Prelude.{option_map, option_to_list, ok_or}
+use Rattle.std.proofs.Common.{◌≡◌, ◌≢◌, ℕ, Bool, true, false, cond, ◌&&◌, nat_le, List, [], ◌∷◌, ◌++◌, length, Option, None, Some, Result, Ok, Err, refl, sym, ap, ◌∙◌, subst, arith, append_assoc, append-nil}
+use Rattle.std.specs.Prelude.{IsSome, option_map, option_to_list, ok_or}
+use Rattle.std.specs.Global.{Vec}
+use Rattle.std.specs.Cmp.{first_so, second_so}
+use Rattle.std.proofs.lemmas.Bool.Decides.{nat_tests}
+use Rattle.std.specs.declared.alloc.AllocError.{AllocError}
 use Rattle.proto_wire.specs.declared.fault.WireFault.{WireFault}
 use Rattle.proto_wire.specs.Field.{◌>>=◌, FieldText, field_text, fields_of, with_first}
 use Rattle.proto_wire.specs.declared.field.Field.{Field}
@@ -10,17 +14,21 @@ use Rattle.std.proofs.lemmas.List.Elements.{filter_map-append}
 use Rattle.proto_wire.proofs.Grammar.{ok_is, bind_ok}
 use Rattle.proto_wire.proofs.Seen.{with_seen, with_seen-none, with_seen-more, messages_at-more}
 use Rattle.name_core.specs.declared.change.Change.{Change}
+use Rattle.name_core.specs.declared.change.Record.{Record}
+use Rattle.name_core.specs.declared.found.Found.{Found}
 use Rattle.name_core.specs.declared.record_fault.RecordFault.{RecordFault}
+use Rattle.name_core.specs.declared.found.Found.TheVariants.{Changes, Unkept, Nothing}
 use Rattle.name_core.specs.declared.record_fault.RecordFault.TheVariants as faults
-use Rattle.name_core.specs.RecordReading.{change_at, each_change_at, all_of, or_wire, changes_in, Reads, ReadsMessage}
+use Rattle.name_core.specs.RecordReading.{change_at, each_change_at, all_of, or_wire, change_of, changes_in, event_at, record_from, Collects, Finds}
+use Rattle.name_core.specs.Log.{end_of_time}
 
--- What was read so far: the fields seen, and what their events mean
-pub record ReadsSo (text : List ℕ) (left : Result (List FieldText) WireFault) (changes : List Change) (is_bad : Bool) : Type 0 where
+-- What was read so far: the fields seen, what their events mean, and what was found of these
+pub record ReadsSo (text : List ℕ) (left : Result (List FieldText) WireFault) (found : Found) : Type 0 where
   pub seen : List FieldText
   pub meant : List (Option Change)
   pub parts : fields_of text ≡ with_seen seen left
   pub read : each_change_at (messages_at 2 seen) ≡ Ok meant
-  pub all : all_of meant ≡ cond is_bad None (Some changes)
+  pub all : Collects (all_of meant) found
 
 -- ---- Lists of events
 
@@ -62,25 +70,64 @@ all_of-push [] x = refl
 all_of-push (None ∷ xs) x = refl
 all_of-push (Some y ∷ xs) x = ap (option_map (λ ys. y ∷ ys)) (all_of-push xs x) ∙ map_cons (all_of xs) y x
 
-all_of-bad : {X : Type 0} (xs : List (Option X)) → all_of (xs ++ None ∷ []) ≡ None
+pub all_of-bad : {X : Type 0} (xs : List (Option X)) → all_of (xs ++ None ∷ []) ≡ None
 all_of-bad [] = refl
 all_of-bad (None ∷ xs) = refl
 all_of-bad (Some y ∷ xs) = ap (option_map (λ ys. y ∷ ys)) (all_of-bad xs)
 
-pushed : (is_bad : Bool) (changes : List Change) (change : Change) → option_map (λ ys. ys ++ change ∷ []) (cond is_bad None (Some changes)) ≡ cond is_bad None (Some (changes ++ change ∷ []))
-pushed true changes change = refl
-pushed false changes change = refl
+-- ---- What is kept of them
+
+some_more : (all : Option (List Change)) (changes : List Change) (change : Change) → all ≡ Some changes → option_map (λ ys. ys ++ change ∷ []) all ≡ Some (changes ++ change ∷ [])
+some_more all changes change is = ap (option_map (λ ys. ys ++ change ∷ [])) is
+
+-- One change more, as long as each is kept
+pub kept_more : (before : List (Option Change)) (changes : List Change) (change : Change) → all_of before ≡ Some changes → all_of (before ++ Some change ∷ []) ≡ Some (changes ++ change ∷ [])
+kept_more before changes change is = all_of-push before change ∙ some_more (all_of before) changes change is
+
+begins : (changes : List Change) (change : Change) → (first : Change) × (more : List Change) × (changes ++ change ∷ [] ≡ first ∷ more)
+begins [] change = (change, [], refl)
+begins (first ∷ more) change = (first, more ++ change ∷ [], refl)
+
+-- One change more, from where memory runs out
+pub lost_more : (before : List (Option Change)) (changes : List Change) (change : Change) → all_of before ≡ Some changes
+    → (first : Change) × (more : List Change) × (all_of (before ++ Some change ∷ []) ≡ Some (first ∷ more))
+lost_more before changes change is =
+    let some = begins changes change in
+    (some.0, some.1, kept_more before changes change is ∙ ap Some some.2)
+
+-- One change more, where none is kept
+pub none_kept_more : (before : List (Option Change)) (found : Found) (change : Change) → ((changes : Vec Change) → found ≢ Changes changes)
+    → Collects (all_of before) found → Collects (all_of (before ++ Some change ∷ [])) found
+none_kept_more before (Changes changes) change other so = absurd (other changes refl)
+none_kept_more before Unkept change other so = lost_more before (so.0 ∷ so.1) change so.2
+none_kept_more before Nothing change other so = all_of-push before change ∙ ap (option_map (λ ys. ys ++ change ∷ [])) so
+
+pub some_meant : (meant : Option Change) → IsSome meant → (change : Change) × (meant ≡ Some change)
+some_meant None is = absurd (let e : ◌≡◌ {A = Bool} false true = is in cc)
+some_meant (Some change) is = (change, refl)
+
+-- A record of a good time, where none is kept
+pub good_record : (time : ℕ) (all : Option (List Change)) (first : Change) (more : List Change) → all ≡ Some (first ∷ more) → (nat_le 1 time && nat_le time end_of_time) ≡ true
+    → record_from time (ok_or all faults.BadRecord) ≡ Ok (record { time = time; changes = first ∷ more })
+good_record time all first more is good =
+    let some : nat_le 1 (length (first ∷ more)) ≡ true = grind (arith, nat_tests) in
+    let starts : nat_le 1 time ≡ true = first_so (nat_le 1 time) (nat_le time end_of_time) good in
+    let ends : nat_le time end_of_time ≡ true = second_so (nat_le 1 time) (nat_le time end_of_time) good in
+    let made : Record = record { time = time; changes = first ∷ more } in
+    let whole : (nat_le 1 (length (first ∷ more)) && nat_le 1 time && nat_le time end_of_time) ≡ true = cc (some, starts, ends) in
+    ap (λ o. record_from time (ok_or o faults.BadRecord)) is
+    ∙ ap (λ t. cond {A = Result Record RecordFault} t (Ok made) (Err faults.BadRecord)) whole
 
 -- ---- A field more
 
-pub reads_none : (text : List ℕ) → ReadsSo text (fields_of text) [] false
-reads_none text = record { seen = []; meant = []; parts = with_seen-none (fields_of text); read = refl; all = refl }
+pub reads_none : (text : List ℕ) (found : Found) → Collects (Some []) found → ReadsSo text (fields_of text) found
+reads_none text found none = record { seen = []; meant = []; parts = with_seen-none (fields_of text); read = refl; all = none }
 
 parts_more : (text : List ℕ) (seen : List FieldText) (field : FieldText) (left now : Result (List FieldText) WireFault) → fields_of text ≡ with_seen seen left → left ≡ with_first field now → fields_of text ≡ with_seen (seen ++ field ∷ []) now
 parts_more text seen field left now parts first = parts ∙ ap (with_seen seen) first ∙ with_seen-more seen field now
 
-pub reads_other : (text : List ℕ) (left now : Result (List FieldText) WireFault) (changes : List Change) (is_bad : Bool) (field : FieldText) → ReadsSo text left changes is_bad → left ≡ with_first field now → None ≡ text_in 2 field → ReadsSo text now changes is_bad
-reads_other text left now changes is_bad field so first none = record {
+pub reads_other : (text : List ℕ) (left now : Result (List FieldText) WireFault) (found : Found) (field : FieldText) → ReadsSo text left found → left ≡ with_first field now → None ≡ text_in 2 field → ReadsSo text now found
+reads_other text left now found field so first none = record {
   seen = so.seen ++ field ∷ [];
   meant = so.meant;
   parts = parts_more text so.seen field left now so.parts first;
@@ -95,22 +142,16 @@ event_read seen meant field event change read is means =
     ∙ each_change_at-append (messages_at 2 seen) (event ∷ []) meant read
     ∙ ap (λ r. r >>= λ more. Ok (meant ++ more)) (one_change event change means)
 
-pub reads_change : (text : List ℕ) (left now : Result (List FieldText) WireFault) (changes : List Change) (is_bad : Bool) (field : FieldText) (event : List ℕ) (change : Change) → ReadsSo text left changes is_bad → left ≡ with_first field now → Some event ≡ text_in 2 field → change_at event ≡ Ok (Some change) → ReadsSo text now (changes ++ change ∷ []) is_bad
-reads_change text left now changes is_bad field event change so first is means = record {
+pub reads_event : (text : List ℕ) (left now : Result (List FieldText) WireFault) (old new : Found) (field : FieldText) (event : List ℕ) (change : Option Change) (found : Result (Option Change) AllocError)
+    → ReadsSo text left old → left ≡ with_first field now → Some event ≡ text_in 2 field → change_at event ≡ Ok change → Finds change found
+    → ((before : List (Option Change)) (meant : Option Change) → Collects (all_of before) old → Finds meant found → Collects (all_of (before ++ meant ∷ [])) new)
+    → ReadsSo text now new
+reads_event text left now old new field event change found so first is means finds taken = record {
   seen = so.seen ++ field ∷ [];
-  meant = so.meant ++ Some change ∷ [];
+  meant = so.meant ++ change ∷ [];
   parts = parts_more text so.seen field left now so.parts first;
-  read = event_read so.seen so.meant field event (Some change) so.read is means;
-  all = all_of-push so.meant change ∙ ap (option_map (λ ys. ys ++ change ∷ [])) so.all ∙ pushed is_bad changes change;
-}
-
-pub reads_bad : (text : List ℕ) (left now : Result (List FieldText) WireFault) (changes : List Change) (is_bad : Bool) (field : FieldText) (event : List ℕ) → ReadsSo text left changes is_bad → left ≡ with_first field now → Some event ≡ text_in 2 field → change_at event ≡ Ok None → ReadsSo text now changes true
-reads_bad text left now changes is_bad field event so first is means = record {
-  seen = so.seen ++ field ∷ [];
-  meant = so.meant ++ None ∷ [];
-  parts = parts_more text so.seen field left now so.parts first;
-  read = event_read so.seen so.meant field event None so.read is means;
-  all = all_of-bad so.meant;
+  read = event_read so.seen so.meant field event change so.read is means;
+  all = taken so.meant change so.all finds;
 }
 
 -- ---- The ends
@@ -119,14 +160,14 @@ all_seen : (seen fields : List FieldText) (left : Result (List FieldText) WireFa
 all_seen seen fields (Ok more) is = (more, refl, ok_is (seen ++ more) fields is)
 all_seen seen fields (Err fault) is = absurd cc
 
-pub no_fault_left : (text : List ℕ) (left : Result (List FieldText) WireFault) (changes : List Change) (is_bad : Bool) (fields : List FieldText) (fault : WireFault) → ReadsSo text left changes is_bad → fields_of text ≡ Ok fields → left ≡ Err fault → ⊥
-no_fault_left text left changes is_bad fields fault so whole is =
+pub no_fault_left : (text : List ℕ) (left : Result (List FieldText) WireFault) (found : Found) (fields : List FieldText) (fault : WireFault) → ReadsSo text left found → fields_of text ≡ Ok fields → left ≡ Err fault → ⊥
+no_fault_left text left found fields fault so whole is =
     let all : (more : List FieldText) × (left ≡ Ok more) × (so.seen ++ more ≡ fields) = all_seen so.seen fields left (sym so.parts ∙ whole) in
     let met : ◌≡◌ {A = Result (List FieldText) WireFault} (Ok all.0) (Err fault) = sym all.1 ∙ is in
     cc
 
-pub reads_fault : (text : List ℕ) (left now : Result (List FieldText) WireFault) (changes : List Change) (is_bad : Bool) (fields : List FieldText) (field : FieldText) (event : List ℕ) (fault : WireFault) → ReadsSo text left changes is_bad → fields_of text ≡ Ok fields → left ≡ with_first field now → Some event ≡ text_in 2 field → change_at event ≡ Err fault → changes_in fields ≡ Err (faults.Wire fault)
-reads_fault text left now changes is_bad fields field event fault so whole first is means =
+pub reads_fault : (text : List ℕ) (left now : Result (List FieldText) WireFault) (found : Found) (fields : List FieldText) (field : FieldText) (event : List ℕ) (fault : WireFault) → ReadsSo text left found → fields_of text ≡ Ok fields → left ≡ with_first field now → Some event ≡ text_in 2 field → event_at event ≡ Err fault → changes_in fields ≡ Err (faults.Wire fault)
+reads_fault text left now found fields field event fault so whole first is means =
     let all : (more : List FieldText) × (now ≡ Ok more) × ((so.seen ++ field ∷ []) ++ more ≡ fields) = all_seen (so.seen ++ field ∷ []) fields now (sym (parts_more text so.seen field left now so.parts first) ∙ whole) in
     let here : messages_at 2 (so.seen ++ field ∷ []) ≡ messages_at 2 so.seen ++ event ∷ [] = messages_at-more 2 so.seen field ∙ ap (λ o. messages_at 2 so.seen ++ option_to_list o) (sym is) in
     let texts : messages_at 2 fields ≡ messages_at 2 so.seen ++ event ∷ messages_at 2 all.0 =
@@ -134,21 +175,16 @@ reads_fault text left now changes is_bad fields field event fault so whole first
     ∙ append_assoc (messages_at 2 so.seen) (event ∷ []) (messages_at 2 all.0) in
     let read : each_change_at (messages_at 2 fields) ≡ Err fault =
     ap each_change_at texts ∙ each_change_at-append (messages_at 2 so.seen) (event ∷ messages_at 2 all.0) so.meant so.read
-    ∙ ap (λ r. r >>= λ more. Ok (so.meant ++ more)) (one_fault event (messages_at 2 all.0) fault means) in
+    ∙ ap (λ r. r >>= λ more. Ok (so.meant ++ more)) (one_fault event (messages_at 2 all.0) fault (ap (λ read. read >>= λ e. Ok (change_of e)) means)) in
     ap (λ r. or_wire r (λ meant. ok_or (all_of meant) faults.BadRecord)) read
 
-pub reads_all : (text : List ℕ) (left : Result (List FieldText) WireFault) (changes : List Change) (is_bad : Bool) (fields : List FieldText) → ReadsSo text left changes is_bad → fields_of text ≡ Ok fields → left ≡ Ok [] → changes_in fields ≡ ok_or (cond is_bad None (Some changes)) faults.BadRecord
-reads_all text left changes is_bad fields so whole none =
+-- Where all events are read, the changes are all of what was found.
+pub reads_all : (text : List ℕ) (left : Result (List FieldText) WireFault) (found : Found) (fields : List FieldText) (so : ReadsSo text left found) → fields_of text ≡ Ok fields → left ≡ Ok [] → changes_in fields ≡ ok_or (all_of so.meant) faults.BadRecord
+reads_all text left found fields so whole none =
     let all : (more : List FieldText) × (left ≡ Ok more) × (so.seen ++ more ≡ fields) = all_seen so.seen fields left (sym so.parts ∙ whole) in
     let no_more : all.0 ≡ [] = ok_is all.0 [] (sym all.1 ∙ none) in
     let seen : fields ≡ so.seen = sym all.2 ∙ ap (λ more. so.seen ++ more) no_more ∙ append-nil so.seen in
-    ap changes_in seen ∙ ap (λ r. or_wire r (λ meant. ok_or (all_of meant) faults.BadRecord)) so.read ∙ ap (λ o. ok_or o faults.BadRecord) so.all
-
--- A fault of an event is one of the record.
-pub event_fault : (text : List ℕ) (left now : Result (List FieldText) WireFault) (changes : List Change) (is_bad : Bool) (fields : List FieldText) (field : FieldText) (event : List ℕ) (fault : RecordFault) → ReadsSo text left changes is_bad → fields_of text ≡ Ok fields → left ≡ with_first field now → Some event ≡ text_in 2 field → ReadsMessage {X = Option Change} (change_at event) (Err fault) → Reads {X = List Change} (changes_in fields) (Err fault)
-event_fault text left now changes is_bad fields field event (faults.Wire fault) so whole first is means = reads_fault text left now changes is_bad fields field event fault so whole first is means
-event_fault text left now changes is_bad fields field event faults.BadRecord so whole first is means = absurd means
-event_fault text left now changes is_bad fields field event faults.Memory so whole first is means = tt
+    ap changes_in seen ∙ ap (λ r. or_wire r (λ meant. ok_or (all_of meant) faults.BadRecord)) so.read
 
 -- The first of what is left
 pub first_left : (found : Option Field) (field : Field) (old now : Result (List FieldText) WireFault) → found ≡ Some field → TakesFirst (Ok found) old now → old ≡ with_first (field_text field) now

@@ -1,6 +1,7 @@
 -- How a text is read as a record. Of a message its own fields are read first, then the messages that it takes, in the
 -- order of the bytes and each in the same way: so a wire fault comes before anything else.
-use Rattle.std.specs.Prelude.{◌≡◌, ℕ, ◌^◌, List, [], ◌∷◌, ◌++◌, length, Option, None, Some, is_none, ok_or, option_map, option_and_then, Result, Ok, Err, Bool, true, false, not, nat_lt, nat_le, bytes_eq, ◌==◌, ◌&&◌, ◌||◌, if◌then◌else◌}
+use Rattle.std.specs.Prelude.{◌≡◌, ℕ, ◌^◌, List, [], ◌∷◌, ◌++◌, length, Option, None, Some, is_none, ok_or, IsSome, option_map, option_and_then, Result, Ok, Err, Bool, true, false, not, nat_lt, nat_le, bytes_eq, ◌==◌, ◌&&◌, ◌||◌, if◌then◌else◌}
+use Rattle.std.specs.declared.alloc.AllocError.{AllocError}
 use Rattle.weed_base.specs.Path.{parts_in, text_of}
 use Rattle.weed_base.specs.PathFaults.{read_fault, join_fault}
 use Rattle.proto_wire.specs.declared.fault.WireFault.{WireFault}
@@ -13,6 +14,8 @@ use Rattle.name_core.specs.declared.entry.Kind.TheVariants.{Directory, File}
 use Rattle.name_core.specs.declared.change.Change.{Change}
 use Rattle.name_core.specs.declared.change.Change.TheVariants.{Put}
 use Rattle.name_core.specs.declared.change.Record.{Record}
+use Rattle.name_core.specs.declared.found.Found.{Found}
+use Rattle.name_core.specs.declared.found.Found.TheVariants.{Changes, Unkept, Nothing}
 use Rattle.name_core.specs.declared.parts.EntryParts.{EntryParts}
 use Rattle.name_core.specs.declared.parts.EntriesParts.{EntriesParts}
 use Rattle.name_core.specs.declared.parts.EventParts.{EventParts}
@@ -163,16 +166,22 @@ record_from time (Err fault) = Err fault
 abbrev pub record_of : List ℕ → Result Record RecordFault
 record_of text = or_wire (fields_of text) (λ fields. record_from (last_number 1 fields) (changes_in fields))
 
--- An answer is what the text is read as, unless memory ran out.
+-- An answer is what the text is read as. Memory runs out only where the text is read as something.
 abbrev pub Reads : {X : Type 0} → Result X RecordFault → Result X RecordFault → Type 0
 Reads read (Ok x) = read ≡ Ok x
 Reads read (Err (faults.Wire fault)) = read ≡ Err (faults.Wire fault)
 Reads read (Err faults.BadRecord) = read ≡ Err faults.BadRecord
-Reads read (Err faults.Memory) = Unit {0}
+Reads {X} read (Err faults.Memory) = (x : X) × (read ≡ Ok x)
 
--- The same where there is no more than a wire fault to it
-abbrev pub ReadsMessage : {X : Type 0} → Result X WireFault → Result X RecordFault → Type 0
-ReadsMessage read (Ok x) = read ≡ Ok x
-ReadsMessage read (Err (faults.Wire fault)) = read ≡ Err fault
-ReadsMessage read (Err faults.BadRecord) = ⊥
-ReadsMessage read (Err faults.Memory) = Unit {0}
+-- ---- What is kept while events are read
+
+-- An answer is what is meant. Memory runs out only where that is something.
+abbrev pub Finds : {X : Type 0} → Option X → Result (Option X) AllocError → Type 0
+Finds meant (Ok found) = found ≡ meant
+Finds meant (Err failed) = IsSome meant
+
+-- What was found of events is all of their changes. Memory runs out only where there is one.
+abbrev pub Collects : Option (List Change) → Found → Type 0
+Collects all (Changes changes) = all ≡ Some changes.items
+Collects all Unkept = (first : Change) × (more : List Change) × (all ≡ Some (first ∷ more))
+Collects all Nothing = all ≡ None

@@ -4,6 +4,7 @@
 mod change;
 mod command;
 mod entry;
+mod found;
 mod laws;
 mod meaning;
 mod messages;

@@ -1,7 +1,8 @@
 //! What the messages of an event mean: a change, where they mean anything.
-ghost use Rattle.std.specs.Prelude.{◌≡◌, ◌≢◌, ◌==◌, ◌&&◌, ◌||◌, ◌^◌, if◌then◌else◌, IfOk, IsErr, IsTrue, length, nat_le, nat_lt, Some, None, MatchResult};
-ghost use Rattle.weed_base.specs.Path.{text_of};
-ghost use Rattle.name_core.specs.RecordReading.{are_good, attributes_of, change_of, directory_of_new, directory_put, entry_of, is_entry, path_in, path_read, path_with, stays};
+ghost use Rattle.std.specs.Prelude.{◌≡◌, ◌≢◌, ◌==◌, ◌||◌, ◌^◌, if◌then◌else◌, ℕ, List, IfOk, IsErr, IsTrue, length, nat_lt, Some, None, MatchResult};
+ghost use Rattle.name_core.specs.declared.change.Change.TheVariants.{Put};
+ghost use Rattle.name_core.specs.declared.entry.Entry.{Entry};
+ghost use Rattle.name_core.specs.RecordReading.{are_good, attributes_of, change_of, directory_of_new, directory_put, entry_of, is_entry, path_in, stays, Finds};
 
 use crate::change::Change;
 use crate::entry::{Attributes, Entry, Kind, MAX_FILE_SIZE, MAX_MIME};
@@ -13,22 +14,18 @@ use weed_base::{Mime, Path, PathFault};
 /// The length of a digest in bytes.
 const DIGEST: usize = 16;
 
-/// The change of an event; `None` where it means nothing.
+/// The change of an event; `None` where it means nothing. Takes memory only where it means a change.
 pub fn change_in(alloc: Global, event: &EventParts) -> Result<Option<Change>, AllocError>
-    ensures { IfOk result (λ change. change ≡ change_of event.now) }
+    ensures { Finds (change_of event.now) result }
 {
     let Some(new_entry) = &event.entries.new_entry else {
         return Ok(None);
     };
-    let Some(change) = put_in(alloc, directory_of(event), new_entry)? else {
+    let directory = directory_of(event);
+    if !is_in_place(event, directory, new_entry.fields.name) {
         return Ok(None);
-    };
-    let directory = event.fields.directory;
-    if is_in_place(alloc, directory, &event.entries.old_entry, &change)? {
-        Ok(Some(change))
-    } else {
-        Ok(None)
     }
+    put_in(alloc, directory, new_entry)
 }
 
 /// The directory of the new entry.
@@ -42,9 +39,23 @@ fn directory_of<'a>(event: &EventParts<'a>) -> &'a [u8]
     }
 }
 
+/// The old entry, if there is one, is good and has this place, where that is a path. Takes no memory.
+fn is_in_place(event: &EventParts, directory: &[u8], name: &[u8]) -> bool
+    ensures { (path : List (List ℕ)) (entry : Entry) → path_in directory.now name.now ≡ Some path
+        → result ≡ stays event.now.fields.directory event.now.entries.old_entry (Put path entry) }
+{
+    match &event.entries.old_entry {
+        Some(entry) if is_valid(entry) => {
+            event.fields.directory == directory && entry.fields.name == name
+        }
+        Some(_) => false,
+        None => true,
+    }
+}
+
 /// The Put of a directory.
 fn put_in(alloc: Global, directory: &[u8], entry: &EntryParts) -> Result<Option<Change>, AllocError>
-    ensures { IfOk result (λ change. change ≡ directory_put directory.now entry.now) }
+    ensures { Finds (directory_put directory.now entry.now) result }
 {
     if !is_valid(entry) || entry.fields.is_directory == 0 {
         return Ok(None);
@@ -55,49 +66,12 @@ fn put_in(alloc: Global, directory: &[u8], entry: &EntryParts) -> Result<Option<
     Ok(Some(Change::Put(path, valid_entry(alloc, entry)?)))
 }
 
-/// The old entry, if there is one, stands at the path of the change.
-fn is_in_place(
-    alloc: Global,
-    directory: &[u8],
-    old_entry: &Option<EntryParts>,
-    change: &Change,
-) -> Result<bool, AllocError>
-    ensures { IfOk result (λ answer. answer ≡ stays directory.now old_entry.now change.now) }
-{
-    let Some(entry) = old_entry else {
-        return Ok(true);
-    };
-    if !is_valid(entry) {
-        return Ok(false);
-    }
-    let Some(path) = path_at(alloc, directory, entry.fields.name)? else {
-        return Ok(false);
-    };
-    Ok(path.text() == change.path().text())
-}
-
-/// The path of a name in a directory; `None` where there is none.
+/// The path of a name in a directory; `None` where there is none. Takes memory only where there is one.
+#[tactic(auto, using(crate::proofs::ReadPaths::read_in_is))]
 fn path_at(alloc: Global, directory: &[u8], name: &[u8]) -> Result<Option<Path>, AllocError>
-    ensures { IfOk result (λ path. path ≡ path_in directory.now name.now) }
+    ensures { Finds (path_in directory.now name.now) result }
 {
-    let Some(top) = directory_path(alloc, directory)? else {
-        return Ok(None);
-    };
-    path_below(alloc, &top, name)
-}
-
-#[tactic(auto, using(crate::proofs::ReadPaths::read_is))]
-fn directory_path(alloc: Global, text: &[u8]) -> Result<Option<Path>, AllocError>
-    ensures { IfOk result (λ path. path ≡ path_read text.now) }
-{
-    if_path(Path::read(alloc, text))
-}
-
-#[tactic(auto, using(crate::proofs::ReadPaths::joined_is))]
-fn path_below(alloc: Global, top: &Path, name: &[u8]) -> Result<Option<Path>, AllocError>
-    ensures { IfOk result (λ path. path ≡ path_with name.now top.now) }
-{
-    if_path(top.join_part(alloc, name))
+    if_path(Path::read_in(alloc, directory, name))
 }
 
 /// No path where there is a fault in it, and an `Err` exactly for want of memory. Takes no memory.
