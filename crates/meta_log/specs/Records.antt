@@ -11,6 +11,10 @@ use Rattle.name_core.specs.RecordReading.{record_of}
 abbrev pub ReadsAs : List ℕ → Record → Type 0
 ReadsAs payload known = record_of payload ≡ Ok known
 
+-- The payload reads as one.
+abbrev pub IsRecord : List ℕ → Type 0
+IsRecord payload = (known : Record) × ReadsAs payload known
+
 -- The payload reads as none.
 abbrev pub IsNoRecord : List ℕ → Type 0
 IsNoRecord payload = (known : Record) → ¬ ReadsAs payload known

@@ -1,4 +1,4 @@
-ghost use Rattle.std.specs.Prelude.{◌≡◌, ◌<◌, ◌≤◌, IfOk, OnOk, IfErr, IsErrOf, IfSome, MatchOption};
+ghost use Rattle.std.specs.Prelude.{◌≡◌, ◌<◌, ◌≤◌, IfOk, OnOk, IfErr, IsErrOf, IfSome, MatchOption, MatchResult};
 ghost use Rattle.std.specs.Bool.{OnTrue};
 ghost use Rattle.weed_base.specs.Told.{IsCauseOf};
 ghost use Rattle.weed_base.specs.Files.{content};
@@ -8,7 +8,7 @@ ghost use Rattle.meta_log.specs.Skip.{SkipsOne, SkipsTo};
 ghost use Rattle.meta_log.specs.Faults.{IfDamaged};
 ghost use Rattle.name_core.specs.declared.change.Record.{Record};
 ghost use Rattle.name_core.specs.Log.{end_of_time};
-ghost use Rattle.meta_log.specs.Records.{ReadsAs, IsNoRecord, AreRecords, HasFront};
+ghost use Rattle.meta_log.specs.Records.{ReadsAs, IsRecord, IsNoRecord, AreRecords, HasFront};
 
 use crate::check::Check;
 use crate::fault::LogFault;
@@ -28,9 +28,11 @@ pub struct RisingRecords {
     ghost bounded: { front.time ≤ end_of_time },
 }
 
-/// The time of the record that the payload reads as, where it reads as one.
+/// The time of the record that the payload reads as, where it reads as one. Memory runs out for a record alone.
 fn time_of(alloc: Global, payload: &[u8]) -> Result<Option<u64>, AllocError>
-    ensures { IfOk result (λ time. MatchOption time (IsNoRecord payload.now) (λ time. (known : Record) × ReadsAs payload.now known × (known.time ≡ time))) }
+    ensures { MatchResult result
+        (λ time. MatchOption time (IsNoRecord payload.now) (λ time. (known : Record) × ReadsAs payload.now known × (known.time ≡ time)))
+        (λ _. IsRecord payload.now) }
 {
     match Record::read(alloc, payload) {
         Ok(known) => Ok(Some(known.time)),
@@ -96,6 +98,8 @@ pub fn skip_past<D: Disk>(
 
 impl Check for RisingRecords {
     ghost allowed = { AreRecords };
+
+    ghost takes_memory = { IsRecord };
 
     ghost passed = { λ check payloads. HasFront check.front payloads };
 
