@@ -1,11 +1,11 @@
-ghost use Rattle.std.specs.Prelude.{◌≡◌, ◌<◌, ◌∷◌, [], List, None, IfOk, IfErr, IsErrOf, MatchOption, MatchBool};
+ghost use Rattle.std.specs.Prelude.{◌≡◌, ◌<◌, ◌∷◌, [], List, None, IfOk, IfErr, IsErrOf, MatchOption, MatchBool, MatchResult};
 ghost use Rattle.weed_base.specs.Told.{IsCauseOf};
 ghost use Rattle.weed_base.specs.Images.{OnlyReads};
 ghost use Rattle.name_core.specs.declared.change.Record.{Record};
 ghost use Rattle.name_core.specs.RecordText.{CanBeWritten};
 ghost use Rattle.meta_log.specs.Faults.{IfDamaged};
 ghost use Rattle.meta_log.specs.Kept.{HoldsRecords};
-ghost use Rattle.meta_log.specs.Records.{ReadsAs, IsNoRecord};
+ghost use Rattle.meta_log.specs.Records.{ReadsAs, IsRecord, IsNoRecord};
 ghost use Rattle.meta_log.specs.LogText.{segment_name};
 ghost use Rattle.meta_log.specs.declared.stem.Stem.TheVariants.{Log};
 ghost use Rattle.weed.specs.NameTable.{names_of};
@@ -105,11 +105,11 @@ fn take_texts(alloc: Global, names: &mut NameTable, texts: &[LogText]) -> Result
     Ok(true)
 }
 
-/// The same of one text.
+/// The same of one text. Memory runs out for a record alone.
 fn take_text(alloc: Global, names: &mut NameTable, text: &[u8]) -> Result<bool, AllocError>
-    ensures { IfOk result (λ taken. MatchBool taken
-        (Takes (text.now ∷ []) (names_of names.old) (names_of names.new))
-        (IsNoRecord text.now)) }
+    ensures { MatchResult result
+        (λ taken. MatchBool taken (Takes (text.now ∷ []) (names_of names.old) (names_of names.new)) (IsNoRecord text.now))
+        (λ _. IsRecord text.now) }
 {
     let Some(known) = record_of(alloc, text)? else {
         return Ok(false);
@@ -121,7 +121,9 @@ fn take_text(alloc: Global, names: &mut NameTable, text: &[u8]) -> Result<bool, 
 
 /// The record of a text, where it is one's.
 fn record_of(alloc: Global, text: &[u8]) -> Result<Option<Record>, AllocError>
-    ensures { IfOk result (λ known. MatchOption known (IsNoRecord text.now) (λ known. ReadsAs text.now known × CanBeWritten known)) }
+    ensures { MatchResult result
+        (λ known. MatchOption known (IsNoRecord text.now) (λ known. ReadsAs text.now known × CanBeWritten known))
+        (λ _. IsRecord text.now) }
 {
     match Record::read(alloc, text) {
         Ok(known) => Ok(Some(known)),
