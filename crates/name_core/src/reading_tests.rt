@@ -64,6 +64,16 @@ fn the_first_record_is_read_and_written_the_same(rt: HostRuntime) -> Result<(), 
     Ok(())
 }
 
+/// Also where an allocation fails.
+#[test]
+fn a_bad_event_behind_good_ones_makes_the_record_bad(rt: HostRuntime) {
+    let mut text = [0; FIRST_RECORD.len() + 2];
+    text[..FIRST_RECORD.len()].copy_from_slice(&FIRST_RECORD);
+    text[FIRST_RECORD.len()] = 0x12;
+    let read = Record::read(rt.alloc(), &text);
+    assert!(rt; matches!(read, Err(RecordFault::BadRecord)));
+}
+
 #[test]
 fn an_empty_text_is_no_record(rt: HostRuntime) {
     let read = Record::read(rt.alloc(), b"");
