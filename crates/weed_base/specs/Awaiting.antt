@@ -1,5 +1,5 @@
 -- The open files of a directory, and what they await of the next sync.
-use Rattle.std.specs.Prelude.{◌≡◌, ◌≢◌, ◌⊎◌, ◌<◌, ℕ, cond, not, List, length, map, filter, slice_index_or, ⊤}
+use Rattle.std.specs.Prelude.{◌≡◌, ◌≢◌, ◌⊎◌, ◌<◌, ℕ, cond, not, List, length, filter, slice_index_or, ⊤}
 use Rattle.std.specs.Str.{bytes_eq}
 use Rattle.std.specs.List.{Any}
 use Rattle.weed_base.specs.declared.real.kept.Awaits.{Awaits}
@@ -67,6 +67,6 @@ without name files = filter (λ kept. not (bytes_eq kept.name name)) files
 abbrev pub renamed_file : {F : Type 0} → List ℕ → List ℕ → KeptFile F → KeptFile F
 renamed_file from to kept = cond (bytes_eq kept.name from) (record kept { name = to }) kept
 
--- The files, of which what had the first name has the second, and what had the second is gone.
-abbrev pub renamed_files : {F : Type 0} → List ℕ → List ℕ → List (KeptFile F) → List (KeptFile F)
-renamed_files from to files = map (renamed_file from to) (without to files)
+-- What had the first name has the second, what had the second is gone, and the other files stay.
+abbrev pub AreRenamed : {F : Type 0} → List ℕ → List ℕ → List (KeptFile F) → List (KeptFile F) → Type 0
+AreRenamed from to old new = EachPair (λ before after. after ≡ renamed_file from to before) (without to old) new

@@ -1,7 +1,7 @@
 //! A directory of the system, and its open files. Nothing here counts faults.
 ghost use Rattle.std.specs.Prelude.{◌≡◌, ◌≢◌, ◌≤◌, ◌⊎◌, [], length, true, false, not, IfOk, IfSome, OnOk, OnErr};
 ghost use Rattle.std.specs.List.{All};
-ghost use Rattle.weed_base.specs.Awaiting.{Wrote, CutTo, SettledAll, AnsweredBy, Awaiting, StillAwaits, IsNamedAt, AwaitsNothing, EachPair, FallsByAnswer, without, renamed_file};
+ghost use Rattle.weed_base.specs.Awaiting.{Wrote, CutTo, SettledAll, AnsweredBy, Awaiting, StillAwaits, IsNamedAt, AwaitsNothing, EachPair, FallsByAnswer, without, AreRenamed};
 
 use crate::file_name::FileName;
 use crate::real::kept::{Awaits, KeptFile, KeptFiles, MAX_END, SystemFile};
@@ -86,6 +86,7 @@ impl<F: SystemFile + Drop, R: Files<File = F> + AllocGlobal + Clone + Drop> Fold
     /// Opens a directory, which is made where it isn't there, and settles it, since an earlier process may
     /// have left it unsettled.
     pub(crate) fn open(rt: R, place: &[u8]) -> io::Result<Folder<R, F>>
+        ensures settled { IfOk result (λ folder. F.answered SettledAll folder.kept.folder) }
         ensures files { IfOk result (λ folder. folder.kept.files.items ≡ []) }
         ensures names { IfOk result (λ folder. folder.kept.names_await ≡ false) }
     {
@@ -231,7 +232,7 @@ impl<F: SystemFile + Drop, R: Files<File = F> + AllocGlobal + Clone + Drop> Fold
 
     pub(crate) fn rename(&mut self, from: &FileName, to: &FileName) -> io::Result<()>
         ensures same { from.now ≡ to.now → self.new.kept.files.items ≡ self.old.kept.files.items }
-        ensures moved { OnOk result (from.now ≢ to.now → EachPair (λ before after. after ≡ renamed_file from.now to.now before) (without to.now self.old.kept.files.items) self.new.kept.files.items) }
+        ensures moved { OnOk result (from.now ≢ to.now → AreRenamed from.now to.now self.old.kept.files.items self.new.kept.files.items) }
         ensures failed { OnErr result (self.new.kept.files.items ≡ self.old.kept.files.items) }
         ensures names { self.new.kept.names_await ≡ true }
     {

@@ -2,7 +2,7 @@
 ghost use Rattle.std.specs.Prelude.{◌≡◌, ◌≢◌, ◌<◌, ◌+◌, ◌^◌, ◌⊎◌, ℕ, List, [], ⊤, length, slice_index_or, true, false, IsTrue, IsFalse, IfOk, IfSome, OnOk, OnErr};
 ghost use Rattle.std.specs.List.{All, position};
 ghost use Rattle.std.specs.Str.{bytes_eq};
-ghost use Rattle.weed_base.specs.Awaiting.{FileCall, Wrote, CutTo, SettledData, SettledAll, AnsweredBy, Covers, Awaiting, StillAwaits, IsNamedAt, FallsByAnswer, EachPair, AwaitsNothing, without, renamed_file, renamed_files};
+ghost use Rattle.weed_base.specs.Awaiting.{FileCall, Wrote, CutTo, SettledData, SettledAll, AnsweredBy, Covers, Awaiting, StillAwaits, IsNamedAt, FallsByAnswer, EachPair, AwaitsNothing, without, AreRenamed};
 ghost use Rattle.weed_base.specs.declared.real.kept.Awaits.{Awaits};
 ghost use Rattle.weed_base.specs.declared.real.kept.Awaits.TheVariants.{Nothing, Data, Everything};
 
@@ -149,6 +149,7 @@ pub(super) struct KeptFiles<F> {
 impl<F: SystemFile + Drop> KeptFiles<F> {
     /// Those of a directory that is settled.
     pub(super) fn new(alloc: Global, folder: F) -> KeptFiles<F>
+        ensures folder { result.folder ≡ folder }
         ensures files { result.files.items ≡ [] }
         ensures names { result.names_await ≡ false }
     {
@@ -224,7 +225,7 @@ impl<F: SystemFile + Drop> KeptFiles<F> {
 
     /// Follows a rename between two names.
     pub(super) fn rename(&mut self, from: &FileName, to: &FileName)
-        ensures files { EachPair (λ before after. after ≡ renamed_file from.now to.now before) (without to.now self.old.files.items) self.new.files.items }
+        ensures files { AreRenamed from.now to.now self.old.files.items self.new.files.items }
         ensures names { self.new.names_await ≡ self.old.names_await }
     {
         self.forget(to);
