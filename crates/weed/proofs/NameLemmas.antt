@@ -13,7 +13,6 @@ use Rattle.std.proofs.lemmas.Bool.{cases_Bool}
 use Rattle.std.proofs.lemmas.Map.Entries.{lookup-filter-keys}
 use Rattle.weed_base.specs.Path.{IsBelow}
 use Rattle.name_core.specs.declared.entry.Entry.{Entry}
-use Rattle.name_core.specs.declared.change.Change.{Change}
 use Rattle.name_core.specs.declared.change.Change.TheVariants.{Put, Drop}
 use Rattle.name_core.specs.Namespace.{Namespace, step, is_within}
 use Rattle.name_core.specs.Entry.{IsValid}

@@ -2,7 +2,7 @@
 use Rattle.std.proofs.Common.{◌≡◌, ◌⊎◌, ℕ, Bool, true, false, List, [], ◌++◌, take, Option, Some, None, Result, Ok, Err, refl, sym, ap, ◌∙◌, subst, inl, inr}
 use Rattle.std.specs.Prelude.{IfSome, IsSomeAnd, OnErr}
 use Rattle.std.specs.Option.{option_map}
-use Rattle.weed_base.specs.Told.{Consumes, IsAtEnd, Appends, HasCause, Rose}
+use Rattle.weed_base.specs.Told.{Consumes, IsAtEnd, Appends}
 use Rattle.weed_base.specs.Files.{Files}
 use Rattle.weed_base.specs.Moments.{later_moments}
 use Rattle.name_core.specs.declared.change.Record.{Record}

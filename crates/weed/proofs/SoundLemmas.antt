@@ -1,5 +1,5 @@
 -- A sound log stays sound with what requests add to it.
-use Rattle.std.proofs.Common.{◌≡◌, inl, inr, ℕ, Bool, List, [], ◌∷◌, ◌++◌, Option, Some, None, refl, sym, ap, subst, append-nil}
+use Rattle.std.proofs.Common.{◌≡◌, inl, inr, ℕ, Bool, List, [], ◌∷◌, ◌++◌, Option, Some, None, refl, sym, subst, append-nil}
 use Rattle.std.specs.Prelude.{MatchOption}
 use Rattle.weed_base.specs.Path.{IsPath, text_of}
 use Rattle.weed_base.specs.PathFaults.{read_fault}

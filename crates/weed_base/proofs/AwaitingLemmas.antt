@@ -1,14 +1,14 @@
 -- What keeps the marks of open files.
-use Rattle.std.proofs.Common.{◌≡◌, ◌≢◌, ◌⊎◌, ℕ, zero, suc, ◌+◌, ◌<◌, ◌≤◌, Bool, true, false, not, cond, List, [], ◌∷◌, ◌++◌, length, get_or, set, Option, Some, None, IfSome, Result, Ok, Err, OnOk, sym, ap, ◌∙◌, inl, inr, subst, refl, arith}
+use Rattle.std.proofs.Common.{◌≡◌, ◌≢◌, ◌⊎◌, ℕ, zero, suc, ◌+◌, ◌<◌, ◌≤◌, Bool, true, false, cond, List, [], ◌∷◌, ◌++◌, length, get_or, set, Some, Result, Ok, Err, OnOk, sym, ap, ◌∙◌, inl, inr, subst, refl, arith}
 use Rattle.std.proofs.lemmas.Bool.{cases_lt}
 use Rattle.std.proofs.lemmas.Grind.{common_steps, get_or-set_at}
 use Rattle.std.proofs.lemmas.List.{get_or-set_other, length-set}
 use Rattle.std.proofs.lemmas.List.Elements.{at_read}
-use Rattle.std.proofs.lemmas.List.Quantifiers.{any-set, Any-push, position-Some}
+use Rattle.std.proofs.lemmas.List.Quantifiers.{any-set, position-Some}
 use Rattle.std.proofs.lemmas.Slice.Eq.{bytes_eq-Decides}
 use Rattle.std.specs.List.{Any, filter, position}
 use Rattle.std.specs.Str.{bytes_eq}
-use Rattle.weed_base.specs.Awaiting.{FileCall, AnsweredBy, Covers, Awaiting, StillAwaits, IsNamedAt, FallsByAnswer, EachPair, AwaitsNothing}
+use Rattle.weed_base.specs.Awaiting.{FileCall, Covers, StillAwaits, IsNamedAt, FallsByAnswer, EachPair, AwaitsNothing}
 use Rattle.weed_base.specs.declared.real.kept.Awaits.{Awaits}
 use Rattle.weed_base.specs.declared.real.kept.Awaits.TheVariants.{Nothing, Data, Everything}
 use Rattle.weed_base.specs.declared.real.kept.KeptFile.{KeptFile}

@@ -1,4 +1,4 @@
-use Rattle.std.proofs.Common.{◌≡◌, ap, sym}
+use Rattle.std.proofs.Common.{ap, sym}
 use Rattle.weed_base.specs.Path.{parts_in}
 use Rattle.weed_base.proofs.PathLemmas.{root_is_path}
 use Rattle.weed_base.proofs.PathFaultLemmas.{long_parts_in, read_kept, read_root}

@@ -1,4 +1,4 @@
-use Rattle.std.proofs.Common.{◌≡◌, ◌∷◌, [], ◌++◌, ◌∙◌, ap, subst, sym}
+use Rattle.std.proofs.Common.{◌∷◌, [], ◌++◌, ◌∙◌, ap, subst, sym}
 use Rattle.weed_base.specs.Path.{IsPath, parts_of}
 use Rattle.weed_base.proofs.PathLemmas.{IsKept}
 use Rattle.weed_base.proofs.PathFaultLemmas.{join_sound}
