@@ -1,5 +1,5 @@
 -- What a disk reads: named files, and what each call makes of them.
-use Rattle.std.specs.Prelude.{◌≡◌, ℕ, ◌+◌, ◌-◌, ◌≤◌, min, max, List, [], ◌++◌, length, take, drop, ⊤, None, Some, Option, IsSome, IsSomeAnd, IsTrue, MatchResult, Result, Bool, true, nat_eq, codes, ◌⊎◌, unwrap_or}
+use Rattle.std.specs.Prelude.{◌≡◌, ℕ, ◌+◌, ◌-◌, ◌≤◌, ◌<◌, min, max, List, [], ◌++◌, length, take, drop, ⊤, None, Some, Option, IsSome, IsSomeAnd, IsTrue, MatchResult, Result, Bool, true, nat_eq, codes, ◌⊎◌, unwrap_or}
 use Rattle.std.specs.List.{starts_with}
 use Rattle.std.specs.Ordering.{nat_cmp}
 use Rattle.std.specs.Cmp.Lexicographic.{slice_cmp}
@@ -54,6 +54,11 @@ MayBeNamed marks_only name = IsTrue marks_only → starts_with nat_eq name (code
 abbrev pub ReadsAt : List ℕ → ℕ → ℕ → List ℕ → Type 0
 ReadsAt bytes at count room =
     (count ≡ min (length room) (length bytes - at)) × (take count room ≡ take count (drop at bytes))
+
+-- The same of a read that may give fewer: it gave none only at the end, or for no room.
+abbrev pub ReadsSome : List ℕ → ℕ → ℕ → List ℕ → Type 0
+ReadsSome bytes at count room =
+    (count ≤ length bytes - at) × (take count room ≡ take count (drop at bytes)) × (count ≡ 0 → 0 < length room → length bytes ≤ at)
 
 -- Bytes that a failed write of so many bytes at a place may leave: anything in its range and past the old
 -- end, and else the same.

@@ -1,35 +1,45 @@
 //! A directory of the system, and its open files. Nothing here counts faults.
-ghost use Rattle.std.specs.Prelude.{◌≡◌, ◌≢◌, ◌≤◌, ◌⊎◌, [], length, true, false, not, IfOk, IfSome, OnOk, OnErr};
+ghost use Rattle.std.specs.Prelude.{◌≡◌, ◌≢◌, ◌≤◌, ◌⊎◌, [], length, take, drop, true, false, not, IfOk, IfSome, OnOk, OnErr};
 ghost use Rattle.std.specs.List.{All};
+ghost use Rattle.weed_base.specs.Files.{ReadsAt, ReadsSome};
 ghost use Rattle.weed_base.specs.Awaiting.{Wrote, CutTo, SettledAll, AnsweredBy, Awaiting, StillAwaits, IsNamedAt, AwaitsNothing, EachPair, FallsByAnswer, without, AreRenamed};
 
 use crate::file_name::FileName;
 use crate::real::kept::{Awaits, KeptFile, KeptFiles, MAX_END, SystemFile};
 use std::alloc::{AllocGlobal, Global};
 use std::fs::{File, OpenOptions};
-use std::os::unix::fs::FileExt;
 use std::path::Path;
 use std::rt::Files;
 use std::{fs, io, str};
 
 /// Reads until the room is full or the file ends.
-fn read_full(file: &impl FileExt, at: u64, room: &mut [u8]) -> io::Result<usize>
-    ensures { IfOk result (λ count. count ≤ length room.new) }
+fn read_full<F: SystemFile>(file: &F, at: u64, room: &mut [u8]) -> io::Result<usize>
+    ensures bound { IfOk result (λ count. count ≤ length room.new) }
+    ensures read { IfOk result (λ count. IfSome (F.bytes file.now) (λ told. ReadsAt told at count room.new)) }
 {
     let mut count = 0;
     while count < room.len() {
         let from = at.saturating_add(count as u64);
-        let got = if from > MAX_END {
-            0
-        } else {
-            file.read_at(&mut room[count..], from)?
-        };
+        if from > MAX_END {
+            break;
+        }
+        let got = read_behind(file, from, room, count)?;
         if got == 0 {
             break;
         }
         count += got;
     }
     Ok(count)
+}
+
+/// Reads into the room behind so many first bytes of it.
+fn read_behind<F: SystemFile>(file: &F, at: u64, room: &mut [u8], done: usize) -> io::Result<usize>
+    requires { done ≤ length room.old }
+    ensures front { take done room.new ≡ take done room.old }
+    ensures bound { IfOk result (λ count. count ≤ length (drop done room.new)) }
+    ensures read { IfOk result (λ count. IfSome (F.bytes file.now) (λ told. ReadsSome told at count (drop done room.new))) }
+{
+    file.read_some(at, &mut room[done..])
 }
 
 /// Makes the directory where it isn't there, and settles its name: an earlier process may have been stopped

@@ -1,7 +1,8 @@
 //! The open files of a directory, and what they await of the next sync.
-ghost use Rattle.std.specs.Prelude.{◌≡◌, ◌≢◌, ◌<◌, ◌+◌, ◌^◌, ◌⊎◌, ℕ, List, [], ⊤, length, slice_index_or, true, false, IsTrue, IsFalse, IfOk, IfSome, OnOk, OnErr};
+ghost use Rattle.std.specs.Prelude.{◌≡◌, ◌≢◌, ◌≤◌, ◌<◌, ◌+◌, ◌^◌, ◌⊎◌, ℕ, List, [], ⊤, length, slice_index_or, Option, None, true, false, IsTrue, IsFalse, IfOk, IfSome, OnOk, OnErr};
 ghost use Rattle.std.specs.List.{All, position};
 ghost use Rattle.std.specs.Str.{bytes_eq};
+ghost use Rattle.weed_base.specs.Files.{ReadsSome};
 ghost use Rattle.weed_base.specs.Awaiting.{FileCall, Wrote, CutTo, SettledData, SettledAll, AnsweredBy, Covers, Awaiting, StillAwaits, IsNamedAt, FallsByAnswer, EachPair, AwaitsNothing, without, AreRenamed};
 ghost use Rattle.weed_base.specs.declared.real.kept.Awaits.{Awaits};
 ghost use Rattle.weed_base.specs.declared.real.kept.Awaits.TheVariants.{Nothing, Data, Everything};
@@ -34,6 +35,18 @@ pub(super) trait SystemFile: OpenFile + FileExt {
     /// That call of it answered Ok.
     ghost answered: { FileCall → Self → Type 0 };
 
+    /// Its bytes, where told: of a file that is only read.
+    ghost bytes: { Self → Option (List ℕ) };
+
+    /// None has 2^63 bytes.
+    ghost short: { (file : Self) → IfSome (bytes file) (λ told. length told < 2 ^ 63) };
+
+    /// Puts bytes from `at` on into the front of `room`, and answers how many: none only at the end, or for no
+    /// room.
+    fn read_some(&self, at: u64, room: &mut [u8]) -> io::Result<usize>
+        ensures bound { IfOk result (λ count. count ≤ length room.new) }
+        ensures read { IfOk result (λ count. IfSome (bytes self.now) (λ told. ReadsSome told at count room.new)) };
+
     /// Writes all of the piece.
     fn write_piece(&self, at: u64, piece: &[u8]) -> io::Result<()>
         ensures { OnOk result (answered (Wrote at piece.now) self.now) };
@@ -52,6 +65,14 @@ pub(super) trait SystemFile: OpenFile + FileExt {
 
 impl SystemFile for File {
     ghost answered = { λ _ _. ⊤ };
+
+    ghost bytes = { λ _. None };
+
+    ghost short = { λ _. tt };
+
+    fn read_some(&self, at: u64, room: &mut [u8]) -> io::Result<usize> {
+        self.read_at(room, at)
+    }
 
     fn write_piece(&self, at: u64, piece: &[u8]) -> io::Result<()> {
         self.write_all_at(piece, at)
