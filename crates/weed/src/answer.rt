@@ -99,7 +99,7 @@ mod tests {
         let answer = created(rt.alloc(), "b")?;
         let text =
             "HTTP/1.1 201 Created\r\nContent-Type: application/json\r\nContent-Length: 12\r\n\r\n{\"name\":\"b\"}";
-        assert_eq!(rt; answer.as_slice(), text.as_bytes());
+        assert!(rt; answer.as_slice() == text.as_bytes());
         Ok(())
     }
 
@@ -108,7 +108,7 @@ mod tests {
         let answer = refused(rt.alloc(), Status::BadRequest, "DotPart", true)?;
         let text =
             "HTTP/1.1 400 Bad Request\r\nContent-Type: application/json\r\nContent-Length: 19\r\nConnection: close\r\n\r\n{\"error\":\"DotPart\"}";
-        assert_eq!(rt; answer.as_slice(), text.as_bytes());
+        assert!(rt; answer.as_slice() == text.as_bytes());
         Ok(())
     }
 
@@ -117,23 +117,21 @@ mod tests {
         let answer = created(rt.alloc(), "a\"\n")?;
         let text =
             "HTTP/1.1 201 Created\r\nContent-Type: application/json\r\nContent-Length: 16\r\n\r\n{\"name\":\"a\\\"\\n\"}";
-        assert_eq!(rt; answer.as_slice(), text.as_bytes());
+        assert!(rt; answer.as_slice() == text.as_bytes());
         Ok(())
+    }
+
+    fn has_words(status: Status, code: u16, reason: &str) -> bool {
+        status.code() == code && status.reason() == reason
     }
 
     #[test]
     fn each_status_has_its_words(rt: HostRuntime) {
-        let table = [
-            (Status::Created, 201, "Created"),
-            (Status::BadRequest, 400, "Bad Request"),
-            (Status::Conflict, 409, "Conflict"),
-            (Status::InternalServerError, 500, "Internal Server Error"),
-            (Status::NotImplemented, 501, "Not Implemented"),
-            (Status::ServiceUnavailable, 503, "Service Unavailable"),
-        ];
-        for (status, code, reason) in table {
-            assert_eq!(rt; status.code(), code);
-            assert_eq!(rt; status.reason(), reason);
-        }
+        assert!(rt; has_words(Status::Created, 201, "Created"));
+        assert!(rt; has_words(Status::BadRequest, 400, "Bad Request"));
+        assert!(rt; has_words(Status::Conflict, 409, "Conflict"));
+        assert!(rt; has_words(Status::InternalServerError, 500, "Internal Server Error"));
+        assert!(rt; has_words(Status::NotImplemented, 501, "Not Implemented"));
+        assert!(rt; has_words(Status::ServiceUnavailable, 503, "Service Unavailable"));
     }
 }

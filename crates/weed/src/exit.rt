@@ -79,32 +79,36 @@ impl Exit {
 #[cfg(test)]
 mod tests {
     use super::*;
+    use std::alloc::Global;
+    use std::process::Abort;
     use std::test::Fail;
     use weed_base::MemSink;
 
+    fn check_end(rt: &impl Abort, alloc: Global, exit: Exit, status: u8, line: &str) {
+        let mut sink = MemSink::new(alloc, Vec::new(alloc)).with_most(3);
+        let is_told = exit.tell(&mut sink) == Ok(()) && sink.written() == line.as_bytes();
+        assert!(rt; is_told && exit.status() == status, "{status}: {line}");
+    }
+
     #[test]
     fn each_end_has_its_status_and_line(rt: HostRuntime) -> Result<(), Fail> {
+        let alloc = rt.alloc();
         let file = FileName::new(b"log.00000001").ok_or("no name")?;
-        let table = [
-            (Exit::Done, 0, ""),
-            (Exit::BadWords { place: 1 }, 1, "weed: bad word 1\n"),
-            (Exit::DiskFault, 2, "weed: disk fault\n"),
-            (
-                Exit::Damaged { file, at: 0 },
-                3,
-                "weed: damaged log.00000001 at 0\n",
-            ),
-            (Exit::ReadFault, 5, "weed: read fault\n"),
-            (Exit::WriteFault, 6, "weed: write fault\n"),
-            (Exit::Memory, 7, "weed: out of memory\n"),
-            (Exit::TurnsSpent, 15, "weed: turns spent\n"),
-        ];
-        for (exit, status, line) in table {
-            let mut sink = MemSink::new(rt.alloc(), Vec::new(rt.alloc())).with_most(3);
-            assert_eq!(rt; exit.status(), status);
-            assert_eq!(rt; exit.tell(&mut sink), Ok(()), "{line}");
-            assert_eq!(rt; sink.written(), line.as_bytes());
-        }
+        let damaged = Exit::Damaged { file, at: 0 };
+        check_end(&rt, alloc, Exit::Done, 0, "");
+        check_end(
+            &rt,
+            alloc,
+            Exit::BadWords { place: 1 },
+            1,
+            "weed: bad word 1\n",
+        );
+        check_end(&rt, alloc, Exit::DiskFault, 2, "weed: disk fault\n");
+        check_end(&rt, alloc, damaged, 3, "weed: damaged log.00000001 at 0\n");
+        check_end(&rt, alloc, Exit::ReadFault, 5, "weed: read fault\n");
+        check_end(&rt, alloc, Exit::WriteFault, 6, "weed: write fault\n");
+        check_end(&rt, alloc, Exit::Memory, 7, "weed: out of memory\n");
+        check_end(&rt, alloc, Exit::TurnsSpent, 15, "weed: turns spent\n");
         Ok(())
     }
 
@@ -112,15 +116,15 @@ mod tests {
     fn a_write_fault_leaves_a_front_of_the_line(rt: HostRuntime) -> Result<(), Fail> {
         let failing = vec![in rt.alloc(); 2u64]?;
         let mut sink = MemSink::new(rt.alloc(), failing).with_most(4);
-        assert_eq!(rt; Exit::DiskFault.tell(&mut sink), Err(WriteFault));
-        assert_eq!(rt; sink.written(), b"weed: di".as_slice());
+        assert!(rt; Exit::DiskFault.tell(&mut sink) == Err(WriteFault));
+        assert!(rt; sink.written() == b"weed: di".as_slice());
         Ok(())
     }
 
     #[test]
     fn a_sink_that_takes_nothing_is_a_write_fault(rt: HostRuntime) {
         let mut sink = MemSink::new(rt.alloc(), Vec::new(rt.alloc())).with_most(0);
-        assert_eq!(rt; Exit::Memory.tell(&mut sink), Err(WriteFault));
-        assert_eq!(rt; sink.faults(), 1);
+        assert!(rt; Exit::Memory.tell(&mut sink) == Err(WriteFault));
+        assert!(rt; sink.faults() == 1);
     }
 }

@@ -207,6 +207,8 @@ mod tests {
     const INPUT: &str =
         "POST /a/b/ HTTP/1.1\r\nHost: x\r\n\r\nPOST / HTTP/1.1\r\n\r\nPOST /c/ HTTP/1.1\r\nHost: 127.0.0.1:80\r\n\r\n";
 
+    const TARGETS: &str = "/a/b/\n/\n/c/\n";
+
     fn source_of(alloc: Global, text: &str, failing: &[u64]) -> Result<MemSource, AllocError> {
         Ok(MemSource::new(text.as_bytes().to_vec(alloc)?, failing.to_vec(alloc)?))
     }
@@ -226,25 +228,44 @@ mod tests {
         Err("too many requests".into())
     }
 
+    /// Checks what is found in a text that comes in pieces of at most so many bytes.
+    fn check_heads(
+        rt: &impl Abort,
+        alloc: Global,
+        text: &str,
+        most: usize,
+        targets: &str,
+        last: Head,
+    ) -> Result<(), Fail>
+        requires { 0 < most }
+    {
+        let (found, head) = heads_of(alloc, source_of(alloc, text, &[])?.with_most(most))?;
+        let is_so = head == last && found.as_str() == targets;
+        assert!(rt; is_so, "{most} bytes a read: {head:?} after {found:?}");
+        Ok(())
+    }
+
     #[test]
     fn pieces_of_any_size_give_the_same_requests(rt: HostRuntime) -> Result<(), Fail> {
         for most in 1..=INPUT.len() {
-            let source = source_of(rt.alloc(), INPUT, &[])?.with_most(most);
-            let (targets, head) = heads_of(rt.alloc(), source)?;
-            assert_eq!(rt; targets.as_str(), "/a/b/\n/\n/c/\n", "{most} bytes a read");
-            assert_eq!(rt; head, Head::End);
+            check_heads(&rt, rt.alloc(), INPUT, most, TARGETS, Head::End)?;
         }
         Ok(())
     }
 
     #[test]
     fn requests_go_on_past_the_buffer(rt: HostRuntime) -> Result<(), Fail> {
-        let input = INPUT.repeat(rt.alloc(), 1_000)?;
-        let source = source_of(rt.alloc(), input.as_str(), &[])?.with_most(1_000);
-        let (targets, head) = heads_of(rt.alloc(), source)?;
-        assert_eq!(rt; targets, "/a/b/\n/\n/c/\n".repeat(rt.alloc(), 1_000)?);
-        assert_eq!(rt; head, Head::End);
-        Ok(())
+        let alloc = rt.alloc();
+        let input = INPUT.repeat(alloc, 1_000)?;
+        let targets = TARGETS.repeat(alloc, 1_000)?;
+        check_heads(
+            &rt,
+            alloc,
+            input.as_str(),
+            1_000,
+            targets.as_str(),
+            Head::End,
+        )
     }
 
     fn check_not_yet(
@@ -253,42 +274,45 @@ mod tests {
         text: &str,
         targets: &str,
     ) -> Result<(), Fail> {
-        let (found, head) = heads_of(alloc, source_of(alloc, text, &[])?)?;
-        assert_eq!(rt; found.as_str(), targets, "{text:?}");
-        assert_eq!(rt; head, Head::NotYet, "{text:?}");
-        let (found, head) = heads_of(alloc, source_of(alloc, text, &[])?.with_most(1))?;
-        assert_eq!(rt; found.as_str(), targets, "{text:?}, byte by byte");
-        assert_eq!(rt; head, Head::NotYet, "{text:?}, byte by byte");
-        Ok(())
+        check_heads(rt, alloc, text, usize::MAX, targets, Head::NotYet)?;
+        check_heads(rt, alloc, text, 1, targets, Head::NotYet)
     }
 
     #[test]
     fn what_is_no_request_is_not_yet_served(rt: HostRuntime) -> Result<(), Fail> {
+        let alloc = rt.alloc();
+        check_not_yet(&rt, alloc, "x", "")?;
+        check_not_yet(&rt, alloc, "\r\n\r\n", "")?;
+        check_not_yet(&rt, alloc, "GET / HTTP/1.1\r\n\r\n", "")?;
+        check_not_yet(&rt, alloc, "POST / HTTP/1.1\r\n", "")?;
+        check_not_yet(
+            &rt,
+            alloc,
+            "POST / HTTP/1.1\r\n\r\nPOST / HTTP/1.1\n\r\n",
+            "/\n",
+        )?;
+        check_not_yet(&rt, alloc, "POST / HTTP/1.1\r\n\r\n\r\n", "/\n")
+    }
+
+    #[test]
+    fn what_fills_the_buffer_is_not_yet_served(rt: HostRuntime) -> Result<(), Fail> {
         let long = "a".repeat(rt.alloc(), 40_000)?;
-        check_not_yet(&rt, rt.alloc(), long.as_str(), "")?;
-        let table = [
-            ("x", ""),
-            ("\r\n\r\n", ""),
-            ("GET / HTTP/1.1\r\n\r\n", ""),
-            ("POST / HTTP/1.1\r\n", ""),
-            ("POST / HTTP/1.1\r\n\r\nPOST / HTTP/1.1\n\r\n", "/\n"),
-            ("POST / HTTP/1.1\r\n\r\n\r\n", "/\n"),
-        ];
-        for (text, targets) in table {
-            check_not_yet(&rt, rt.alloc(), text, targets)?;
-        }
-        Ok(())
+        check_not_yet(&rt, rt.alloc(), long.as_str(), "")
+    }
+
+    /// What ends the reading of one request of so many bytes.
+    fn end_of_long_head(alloc: Global, length: usize) -> Result<Head, Fail> {
+        let part = "a".repeat(alloc, length.saturating_sub(20))?;
+        let input = format!(in alloc; "POST /{part}/ HTTP/1.1\r\n\r\n")?;
+        let source = source_of(alloc, input.as_str(), &[])?.with_most(1_000);
+        let (_, head) = heads_of(alloc, source)?;
+        Ok(head)
     }
 
     #[test]
     fn a_long_head_is_found(rt: HostRuntime) -> Result<(), Fail> {
-        for (length, last) in [(16_384usize, Head::End), (16_385, Head::NotYet)] {
-            let part = "a".repeat(rt.alloc(), length.saturating_sub(20))?;
-            let input = format!(in rt.alloc(); "POST /{part}/ HTTP/1.1\r\n\r\n")?;
-            let source = source_of(rt.alloc(), input.as_str(), &[])?.with_most(1_000);
-            let (_, head) = heads_of(rt.alloc(), source)?;
-            assert_eq!(rt; head, last, "{length} bytes");
-        }
+        assert!(rt; end_of_long_head(rt.alloc(), 16_384)? == Head::End);
+        assert!(rt; end_of_long_head(rt.alloc(), 16_385)? == Head::NotYet);
         Ok(())
     }
 
@@ -296,9 +320,9 @@ mod tests {
     fn a_failed_read_loses_nothing(rt: HostRuntime) -> Result<(), Fail> {
         let mut source = source_of(rt.alloc(), INPUT, &[1])?.with_most(10);
         let mut inbox = Inbox::new(rt.alloc())?;
-        assert_eq!(rt; next_head(&mut source, &mut inbox), Err(Failed));
-        assert_eq!(rt; next_head(&mut source, &mut inbox), Ok(Head::Request));
-        assert_eq!(rt; inbox.target(), b"/a/b/".as_slice());
+        assert!(rt; next_head(&mut source, &mut inbox) == Err(Failed));
+        assert!(rt; next_head(&mut source, &mut inbox) == Ok(Head::Request));
+        assert!(rt; inbox.target() == b"/a/b/".as_slice());
         Ok(())
     }
 }

@@ -107,34 +107,35 @@ mod tests {
         }
     }
 
+    const OTHERS: [&str; 22] = [
+        "",
+        "\r\n\r\n",
+        "GET /a/ HTTP/1.1\r\n\r\n",
+        "post /a/ HTTP/1.1\r\n\r\n",
+        "POST /a/ http/1.1\r\n\r\n",
+        "POST /a/ HTTP/1.0\r\n\r\n",
+        "POST  /a/ HTTP/1.1\r\n\r\n",
+        "POST /a HTTP/1.1\r\n\r\n",
+        "POST a/ HTTP/1.1\r\n\r\n",
+        "POST  HTTP/1.1\r\n\r\n",
+        "POST /%61/ HTTP/1.1\r\n\r\n",
+        "POST /a/?b=/ HTTP/1.1\r\n\r\n",
+        "POST /\u{7f}/ HTTP/1.1\r\n\r\n",
+        "POST /a/ HTTP/1.1\n\r\n",
+        "POST /a/ HTTP/1.1\r\n\n",
+        "POST /a/ HTTP/1.1\r\n",
+        "POST /a/ HTTP/1.1\r\n\r\nx",
+        "POST /a/ HTTP/1.1\r\nHost: \r\n\r\n",
+        "POST /a/ HTTP/1.1\r\nHost: X\r\n\r\n",
+        "POST /a/ HTTP/1.1\r\nhost: x\r\n\r\n",
+        "POST /a/ HTTP/1.1\r\nHost: x\r\nHost: x\r\n\r\n",
+        "POST /a/ HTTP/1.1\r\nAccept: x\r\n\r\n",
+    ];
+
     #[test]
     fn other_texts_are_no_requests(rt: HostRuntime) {
-        let table = [
-            "",
-            "\r\n\r\n",
-            "GET /a/ HTTP/1.1\r\n\r\n",
-            "post /a/ HTTP/1.1\r\n\r\n",
-            "POST /a/ http/1.1\r\n\r\n",
-            "POST /a/ HTTP/1.0\r\n\r\n",
-            "POST  /a/ HTTP/1.1\r\n\r\n",
-            "POST /a HTTP/1.1\r\n\r\n",
-            "POST a/ HTTP/1.1\r\n\r\n",
-            "POST  HTTP/1.1\r\n\r\n",
-            "POST /%61/ HTTP/1.1\r\n\r\n",
-            "POST /a/?b=/ HTTP/1.1\r\n\r\n",
-            "POST /\u{7f}/ HTTP/1.1\r\n\r\n",
-            "POST /a/ HTTP/1.1\n\r\n",
-            "POST /a/ HTTP/1.1\r\n\n",
-            "POST /a/ HTTP/1.1\r\n",
-            "POST /a/ HTTP/1.1\r\n\r\nx",
-            "POST /a/ HTTP/1.1\r\nHost: \r\n\r\n",
-            "POST /a/ HTTP/1.1\r\nHost: X\r\n\r\n",
-            "POST /a/ HTTP/1.1\r\nhost: x\r\n\r\n",
-            "POST /a/ HTTP/1.1\r\nHost: x\r\nHost: x\r\n\r\n",
-            "POST /a/ HTTP/1.1\r\nAccept: x\r\n\r\n",
-        ];
-        for text in table {
-            assert_eq!(rt; read_request(text.as_bytes()), None, "{text:?}");
+        for text in OTHERS {
+            assert!(rt; read_request(text.as_bytes()).is_none(), "{text:?}");
         }
     }
 }

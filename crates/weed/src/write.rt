@@ -75,16 +75,16 @@ mod tests {
     #[test]
     fn all_bytes_are_sent(rt: HostRuntime) -> Result<(), Fail> {
         let mut host = host_of(rt.alloc(), &[])?;
-        assert_eq!(rt; send_all(&mut host, b"abcde"), Ok(()));
-        assert_eq!(rt; host.sent(), b"abcde".as_slice());
+        assert!(rt; send_all(&mut host, b"abcde") == Ok(()));
+        assert!(rt; host.sent() == b"abcde".as_slice());
         Ok(())
     }
 
     #[test]
     fn a_failed_send_leaves_first_bytes(rt: HostRuntime) -> Result<(), Fail> {
         let mut host = host_of(rt.alloc(), &[1])?;
-        assert_eq!(rt; send_all(&mut host, b"abcde"), Err(WriteFault));
-        assert_eq!(rt; host.sent(), b"ab".as_slice());
+        assert!(rt; send_all(&mut host, b"abcde") == Err(WriteFault));
+        assert!(rt; host.sent() == b"ab".as_slice());
         Ok(())
     }
 }

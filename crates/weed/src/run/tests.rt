@@ -1,3 +1,5 @@
+ghost use Rattle.std.specs.Prelude.{◌<◌};
+
 use super::*;
 use std::process::Abort;
 use std::test::Fail;
@@ -21,6 +23,9 @@ const ONE_RECORD: [u8; 59] = [
 
 const PICKS: [Pick; 4] = [Pick::Old, Pick::New, Pick::Fill(0), Pick::Fill(1)];
 
+/// Five seconds after 1970, three times.
+const FIVE_SECONDS: [u64; 3] = [5_000_000_000; 3];
+
 /// What a run over memory left.
 #[derive(Drop)]
 struct Ran {
@@ -38,49 +43,107 @@ impl Ran {
         let name = FileName::new(b"log.00000001").ok_or("a name")?;
         Ok(self.host.disk().content(&name).unwrap_or_default())
     }
+
+    /// Whether the run is done, sent these bytes and left this log.
+    fn is(&self, sent: &[u8], log: &[u8]) -> Result<bool, Fail> {
+        Ok(self.status == 0 && self.sent() == sent && self.log()? == log)
+    }
+
+    /// What a crash at that tick leaves of the disk.
+    fn image(&self, tick: u64, pick: Pick) -> Result<MemDisk, Fail> {
+        let disk = self.host.disk();
+        if disk.tick() < tick {
+            return Err("a tick to come".into());
+        }
+        Ok(disk.image(tick, pick)?)
+    }
+
+    /// What a crash at the end of the run leaves of the disk.
+    fn last_image(&self, pick: Pick) -> Result<MemDisk, Fail> {
+        self.image(self.host.disk().tick(), pick)
+    }
 }
 
 fn source_of(alloc: Global, input: &[u8]) -> Result<MemSource, Fail> {
-    let input = Bytes::new(alloc, input)?.into_vec();
-    Ok(MemSource::new(input, Vec::new(alloc)))
+    Ok(MemSource::new(input.to_vec(alloc)?, Vec::new(alloc)))
 }
 
 fn empty_disk(alloc: Global) -> Result<MemDisk, Fail> {
     Ok(MemDisk::new(alloc, Vec::new(alloc), Vec::new(alloc))?)
 }
 
-/// What a crash at the end of a run leaves.
-fn image_after(ran: &Ran, pick: Pick) -> Result<MemDisk, Fail> {
-    let disk = ran.host.disk();
-    Ok(disk.image(disk.tick(), pick)?)
+fn words_of_filer_once(alloc: Global) -> Result<Vec<Word>, Fail> {
+    let mut words = Vec::new(alloc);
+    words.push(Word::new(alloc, b"filer.once")?)?;
+    words.push(Word::new(alloc, b"-dir=data")?)?;
+    Ok(words)
 }
 
-/// Runs `filer.once` over a clock of three moments.
-fn run_over(
+fn world_of(
+    alloc: Global,
+    source: MemSource,
+    disk: MemDisk,
+    moments: [u64; 3],
+) -> Result<World<MemSource, MemHost, MemClock>, Fail> {
+    let clock = MemClock::new(moments.to_vec(alloc)?);
+    let host = MemHost::new(alloc, disk, Vec::new(alloc));
+    Ok(World {
+        source,
+        host,
+        clock,
+    })
+}
+
+fn run_world(alloc: Global, words: &[Word], world: World<MemSource, MemHost, MemClock>) -> Ran {
+    let (exit, world) = weed(alloc, words, world);
+    Ran {
+        status: exit.status(),
+        host: world.host,
+    }
+}
+
+/// Runs `filer.once` from a source over a clock of three moments.
+fn run_from(
     alloc: Global,
     source: MemSource,
     disk: MemDisk,
     moments: [u64; 3],
 ) -> Result<Ran, Fail> {
-    let mut words = Vec::new(alloc);
-    words.push(Word::new(alloc, b"filer.once")?)?;
-    words.push(Word::new(alloc, b"-dir=data")?)?;
-    let world = World {
-        source,
-        host: MemHost::new(alloc, disk, Vec::new(alloc)),
-        clock: MemClock::new(moments.to_vec(alloc)?),
-    };
-    let (exit, world) = weed(alloc, words.as_slice(), world);
-    Ok(Ran {
-        status: exit.status(),
-        host: world.host,
-    })
+    let world = world_of(alloc, source, disk, moments)?;
+    let words = words_of_filer_once(alloc)?;
+    Ok(run_world(alloc, words.as_slice(), world))
+}
+
+/// Runs it on these bytes.
+fn run_over(alloc: Global, input: &[u8], disk: MemDisk, moments: [u64; 3]) -> Result<Ran, Fail> {
+    run_from(alloc, source_of(alloc, input)?, disk, moments)
 }
 
 /// Runs it over an empty disk at five seconds after 1970.
 fn run_once(alloc: Global, input: &[u8]) -> Result<Ran, Fail> {
-    let source = source_of(alloc, input)?;
-    run_over(alloc, source, empty_disk(alloc)?, [5_000_000_000; 3])
+    run_over(alloc, input, empty_disk(alloc)?, FIVE_SECONDS)
+}
+
+fn check_run(rt: &impl Abort, ran: &Ran, sent: &str, log: &[u8]) -> Result<(), Fail> {
+    let is_so = ran.is(sent.as_bytes(), log)?;
+    assert!(rt;
+        is_so,
+        "status {}, or not sent and logged: {sent:?}",
+        ran.status
+    );
+    Ok(())
+}
+
+/// Checks the first run on these bytes.
+fn check_first(
+    rt: &impl Abort,
+    alloc: Global,
+    input: &[u8],
+    sent: &str,
+    log: &[u8],
+) -> Result<(), Fail> {
+    let ran = run_once(alloc, input)?;
+    check_run(rt, &ran, sent, log)
 }
 
 #[test]
@@ -89,58 +152,44 @@ fn the_first_run_is_not_out_of_memory_and_a_second_adds_nothing(
 ) -> Result<(), Fail> {
     let alloc = rt.alloc();
     let first = run_once(alloc, MAKE)?;
-    assert_eq!(rt; first.sent(), MADE.as_bytes());
-    assert_eq!(rt; first.status, 0);
-    assert_eq!(rt; first.log()?, ONE_RECORD.as_slice());
-    let disk = image_after(&first, Pick::New)?;
-    let second = run_over(alloc, source_of(alloc, MAKE)?, disk, [6_000_000_000; 3])?;
-    assert_eq!(rt; second.sent(), MADE.as_bytes());
-    assert_eq!(rt; second.log()?, ONE_RECORD.as_slice());
-    Ok(())
+    check_run(&rt, &first, MADE, &ONE_RECORD)?;
+    let second = run_over(
+        alloc,
+        MAKE,
+        first.last_image(Pick::New)?,
+        [6_000_000_000; 3],
+    )?;
+    check_run(&rt, &second, MADE, &ONE_RECORD)
 }
 
 #[test]
 fn an_empty_input_makes_an_empty_log(rt: HostRuntime) -> Result<(), Fail> {
-    let ran = run_once(rt.alloc(), b"")?;
-    assert_eq!(rt; ran.sent(), b"".as_slice());
-    assert_eq!(rt; ran.status, 0);
-    assert_eq!(rt; ran.log()?, b"\0".as_slice());
-    Ok(())
+    check_first(&rt, rt.alloc(), b"", "", b"\0")
+}
+
+const DOT_PART: &str =
+    "HTTP/1.1 400 Bad Request\r\nContent-Type: application/json\r\nContent-Length: 19\r\nConnection: close\r\n\r\n{\"error\":\"DotPart\"}";
+
+const NOT_YET: &str =
+    "HTTP/1.1 501 Not Implemented\r\nContent-Type: application/json\r\nContent-Length: 18\r\nConnection: close\r\n\r\n{\"error\":\"NotYet\"}";
+
+#[test]
+fn a_bad_path_is_refused_and_closes(rt: HostRuntime) -> Result<(), Fail> {
+    let input = b"POST /a/../b/ HTTP/1.1\r\n\r\nPOST /a/ HTTP/1.1\r\n\r\n";
+    check_first(&rt, rt.alloc(), input, DOT_PART, b"\0")
 }
 
 #[test]
-fn a_bad_path_and_a_request_of_another_kind_are_refused_and_close(
-    rt: HostRuntime,
-) -> Result<(), Fail> {
-    let table: [(&[u8], &str); 3] = [
-        (
-            b"POST /a/../b/ HTTP/1.1\r\n\r\nPOST /a/ HTTP/1.1\r\n\r\n",
-            "HTTP/1.1 400 Bad Request\r\nContent-Type: application/json\r\nContent-Length: 19\r\nConnection: close\r\n\r\n{\"error\":\"DotPart\"}",
-        ),
-        (
-            b"GET / HTTP/1.1\r\n\r\nPOST /a/ HTTP/1.1\r\n\r\n",
-            "HTTP/1.1 501 Not Implemented\r\nContent-Type: application/json\r\nContent-Length: 18\r\nConnection: close\r\n\r\n{\"error\":\"NotYet\"}",
-        ),
-        (
-            b"POST /a/",
-            "HTTP/1.1 501 Not Implemented\r\nContent-Type: application/json\r\nContent-Length: 18\r\nConnection: close\r\n\r\n{\"error\":\"NotYet\"}",
-        ),
-    ];
-    for (input, answer) in table {
-        let ran = run_once(rt.alloc(), input)?;
-        assert_eq!(rt; ran.sent(), answer.as_bytes());
-        assert_eq!(rt; ran.status, 0);
-        assert_eq!(rt; ran.log()?, b"\0".as_slice());
-    }
-    Ok(())
+fn a_request_of_another_kind_is_refused_and_closes(rt: HostRuntime) -> Result<(), Fail> {
+    let input = b"GET / HTTP/1.1\r\n\r\nPOST /a/ HTTP/1.1\r\n\r\n";
+    check_first(&rt, rt.alloc(), input, NOT_YET, b"\0")?;
+    check_first(&rt, rt.alloc(), b"POST /a/", NOT_YET, b"\0")
 }
 
-/// What is sent for a request of that target over an empty disk.
-fn sent_for(alloc: Global, target: &str) -> Result<String, Fail> {
+/// Runs it on a request of that target over an empty disk.
+fn run_target(alloc: Global, target: &str) -> Result<Ran, Fail> {
     let input = format!(in alloc; "POST {target} HTTP/1.1\r\n\r\n")?;
-    let ran = run_once(alloc, input.as_bytes())?;
-    let sent = str::from_utf8(ran.sent()).map_err(|_| "no text")?;
-    Ok(String::from_str(alloc, sent)?)
+    run_once(alloc, input.as_bytes())
 }
 
 /// The answer that refuses a path with that fault.
@@ -152,117 +201,139 @@ fn refusal_with(alloc: Global, fault: &str) -> Result<String, Fail> {
     )?)
 }
 
+fn check_refused(rt: &impl Abort, alloc: Global, target: &str, fault: &str) -> Result<(), Fail> {
+    let wanted = refusal_with(alloc, fault)?;
+    let ran = run_target(alloc, target)?;
+    assert!(rt; ran.sent() == wanted.as_bytes(), "no {fault}: {target}");
+    Ok(())
+}
+
+/// The target of a text so many times over, and one more part.
+fn long_target(alloc: Global, text: &str, times: usize) -> Result<String, Fail> {
+    let front = text.repeat(alloc, times)?;
+    Ok(format!(in alloc; "/{front}a/")?)
+}
+
+fn check_long_refused(
+    rt: &impl Abort,
+    alloc: Global,
+    text: &str,
+    times: usize,
+    fault: &str,
+) -> Result<(), Fail> {
+    let target = long_target(alloc, text, times)?;
+    check_refused(rt, alloc, target.as_str(), fault)
+}
+
 #[test]
 fn each_fault_of_a_path_is_named(rt: HostRuntime) -> Result<(), Fail> {
     let alloc = rt.alloc();
-    let long_part = "a".repeat(alloc, 256)?;
-    let long = format!(in alloc; "/{long_part}/")?;
-    let parts = "a/".repeat(alloc, 65)?;
-    let deep = format!(in alloc; "/{parts}")?;
-    let many_parts = "a/".repeat(alloc, 2049)?;
-    let longest = format!(in alloc; "/{many_parts}")?;
-    let table = [
-        ("/a//", "EmptyPart"),
-        ("/a/../", "DotPart"),
-        ("/./", "DotPart"),
-        (long.as_str(), "PartTooLong"),
-        (deep.as_str(), "TooDeep"),
-        (longest.as_str(), "TooLong"),
-    ];
-    for (target, fault) in table {
-        let wanted = refusal_with(alloc, fault)?;
-        assert_eq!(rt;
-            sent_for(alloc, target)?.as_str(),
-            wanted.as_str(),
-            "{target}"
-        );
-    }
+    check_refused(&rt, alloc, "/a//", "EmptyPart")?;
+    check_refused(&rt, alloc, "/a/../", "DotPart")?;
+    check_refused(&rt, alloc, "/./", "DotPart")?;
+    check_long_refused(&rt, alloc, "a", 255, "PartTooLong")?;
+    check_long_refused(&rt, alloc, "a/", 64, "TooDeep")?;
+    check_long_refused(&rt, alloc, "a/", 2048, "TooLong")
+}
+
+fn check_long_made(rt: &impl Abort, alloc: Global, text: &str, times: usize) -> Result<(), Fail> {
+    let target = long_target(alloc, text, times)?;
+    let ran = run_target(alloc, target.as_str())?;
+    assert!(rt;
+        ran.sent().starts_with(b"HTTP/1.1 201 "),
+        "{times} times {text}"
+    );
     Ok(())
 }
 
 #[test]
 fn a_part_of_255_bytes_and_64_parts_make_a_path(rt: HostRuntime) -> Result<(), Fail> {
-    let alloc = rt.alloc();
-    let part = "a".repeat(alloc, 255)?;
-    let long = format!(in alloc; "/{part}/")?;
-    let parts = "a/".repeat(alloc, 64)?;
-    let deep = format!(in alloc; "/{parts}")?;
-    assert!(rt; sent_for(alloc, long.as_str())?.starts_with("HTTP/1.1 201 "));
-    assert!(rt; sent_for(alloc, deep.as_str())?.starts_with("HTTP/1.1 201 "));
-    Ok(())
+    check_long_made(&rt, rt.alloc(), "a", 254)?;
+    check_long_made(&rt, rt.alloc(), "a/", 63)
 }
 
 const THREE: &[u8] = b"POST /a/ HTTP/1.1\r\n\r\nPOST /b/ HTTP/1.1\r\n\r\nPOST /c/ HTTP/1.1\r\n\r\n";
 
 const TWO: &[u8] = b"POST /a/ HTTP/1.1\r\n\r\nPOST /a/b/ HTTP/1.1\r\nHost: x\r\n\r\n";
 
-#[test]
-fn input_in_pieces_of_each_size_is_answered_as_the_whole(rt: HostRuntime) -> Result<(), Fail> {
-    let alloc = rt.alloc();
-    let whole = run_once(alloc, TWO)?;
-    assert!(rt; whole.sent().ends_with(b"{\"name\":\"b\"}"));
-    for most in 1..=TWO.len() {
-        let source = source_of(alloc, TWO)?.with_most(most);
-        let ran = run_over(alloc, source, empty_disk(alloc)?, [5_000_000_000; 3])?;
-        assert_eq!(rt; ran.sent(), whole.sent(), "{most} bytes a read");
-        assert_eq!(rt; ran.log()?, whole.log()?, "{most} bytes a read");
-        assert_eq!(rt; ran.status, 0, "{most} bytes a read");
-    }
+/// Runs it on two requests that come in pieces of at most so many bytes.
+fn run_in_pieces(alloc: Global, most: usize) -> Result<Ran, Fail>
+    requires { 0 < most }
+{
+    let source = source_of(alloc, TWO)?.with_most(most);
+    run_from(alloc, source, empty_disk(alloc)?, FIVE_SECONDS)
+}
+
+fn check_pieces(rt: &impl Abort, alloc: Global, whole: &Ran, most: usize) -> Result<(), Fail>
+    requires { 0 < most }
+{
+    let ran = run_in_pieces(alloc, most)?;
+    let is_same = ran.is(whole.sent(), whole.log()?)?;
+    assert!(rt; is_same, "{most} bytes a read");
     Ok(())
 }
 
 #[test]
+fn input_in_pieces_of_each_size_is_answered_as_the_whole(rt: HostRuntime) -> Result<(), Fail> {
+    let whole = run_once(rt.alloc(), TWO)?;
+    assert!(rt; whole.sent().ends_with(b"{\"name\":\"b\"}"));
+    for most in 1..=TWO.len() {
+        check_pieces(&rt, rt.alloc(), &whole, most)?;
+    }
+    Ok(())
+}
+
+/// The log of three requests over an empty disk at these moments.
+fn log_at(alloc: Global, moments: [u64; 3]) -> Result<Bytes, Fail> {
+    let ran = run_over(alloc, THREE, empty_disk(alloc)?, moments)?;
+    Ok(Bytes::new(alloc, ran.log()?)?)
+}
+
+#[test]
 fn times_rise_past_a_clock_that_stands_or_falls(rt: HostRuntime) -> Result<(), Fail> {
-    let alloc = rt.alloc();
-    let falling = run_over(
-        alloc,
-        source_of(alloc, THREE)?,
-        empty_disk(alloc)?,
-        [50, 50, 20],
-    )?;
-    let rising = run_over(
-        alloc,
-        source_of(alloc, THREE)?,
-        empty_disk(alloc)?,
-        [50, 51, 52],
-    )?;
-    assert_eq!(rt; falling.log()?, rising.log()?);
+    let falling = log_at(rt.alloc(), [50, 50, 20])?;
+    let rising = log_at(rt.alloc(), [50, 51, 52])?;
+    assert!(rt; falling.as_slice() == rising.as_slice());
     Ok(())
 }
 
 /// Runs the first request over a disk of which that call fails.
 fn run_with_a_fault(alloc: Global, call: u64) -> Result<Ran, Fail> {
     let disk = MemDisk::new(alloc, Vec::new(alloc), vec![in alloc; call]?)?;
-    run_over(alloc, source_of(alloc, MAKE)?, disk, [5_000_000_000; 3])
+    run_over(alloc, MAKE, disk, FIVE_SECONDS)
 }
 
-/// Whatever a crash leaves of a run, the first request is answered over it.
-fn answers_again(rt: &impl Abort, alloc: Global, ran: &Ran) -> Result<(), Fail> {
-    for pick in PICKS {
-        let disk = image_after(ran, pick)?;
-        let again = run_over(alloc, source_of(alloc, MAKE)?, disk, [5_000_000_000; 3])?;
-        assert_eq!(rt; again.status, 0, "{pick:?}");
-        assert_eq!(rt; again.sent(), MADE.as_bytes(), "{pick:?}");
+/// Whether the run is done, or ended in a fault of its disk and sent no other answer.
+fn ends_as_its_disk(ran: &Ran) -> bool {
+    if ran.host.disk().faults() == 0 {
+        ran.status == 0 && ran.sent() == MADE.as_bytes()
+    } else {
+        ran.status == 2 && (ran.sent().is_empty() || ran.sent() == DISK_FAULT.as_bytes())
     }
-    Ok(())
+}
+
+/// Whether the first request is answered over what a crash leaves of a run.
+fn is_answered_again(alloc: Global, ran: &Ran, pick: Pick) -> Result<bool, Fail> {
+    let again = run_over(alloc, MAKE, ran.last_image(pick)?, FIVE_SECONDS)?;
+    Ok(again.status == 0 && again.sent() == MADE.as_bytes())
+}
+
+/// Whether an answer tells of the fault of that call, which the run and each crash after it bear.
+fn is_told(rt: &impl Abort, alloc: Global, call: u64) -> Result<bool, Fail> {
+    let ran = run_with_a_fault(alloc, call)?;
+    assert!(rt; ends_as_its_disk(&ran), "call {call}");
+    for pick in PICKS {
+        let is_answered = is_answered_again(alloc, &ran, pick)?;
+        assert!(rt; is_answered, "{pick:?} after call {call}");
+    }
+    Ok(ran.sent() == DISK_FAULT.as_bytes())
 }
 
 #[test]
 fn each_call_of_the_disk_may_fail(rt: HostRuntime) -> Result<(), Fail> {
-    let alloc = rt.alloc();
     let mut told = 0;
     for call in 1..=30 {
-        let ran = run_with_a_fault(alloc, call)?;
-        if ran.host.disk().faults() == 0 {
-            assert_eq!(rt; ran.sent(), MADE.as_bytes(), "call {call}");
-            assert_eq!(rt; ran.status, 0, "call {call}");
-        } else {
-            assert_eq!(rt; ran.status, 2, "call {call}");
-            let is_told = ran.sent() == DISK_FAULT.as_bytes();
-            assert!(rt; is_told || ran.sent().is_empty(), "call {call}");
-            told = u32::saturating_add(told, u32::from(is_told));
-        }
-        answers_again(&rt, alloc, &ran)?;
+        told = u32::saturating_add(told, u32::from(is_told(&rt, rt.alloc(), call)?));
     }
     assert!(rt; told >= 4, "{told} faults of an append");
     Ok(())
