@@ -109,8 +109,9 @@ impl Inbox {
 }
 
 /// Finds what stands at the front of the bytes left, those of the inbox before those of the source, and
-/// reads as far as it takes to tell, so it waits for no byte behind a request. A request is taken from them, and `Inbox::target` gives its target.
-/// After any other answer, and after a failed read, all bytes are still there. Takes no memory.
+/// reads as far as it takes to tell, so it waits for no byte behind a request. A request is taken from them,
+/// and `Inbox::target` gives its target. After any other answer, and after a failed read, all bytes are still
+/// there. Takes no memory.
 pub fn next_head<S: Source>(from: &mut S, inbox: &mut Inbox) -> Result<Head, Failed>
     ensures head { MatchResult result
         (λ head. Finds head (left_of inbox.old.pending (S.left from.old)) (left_of inbox.new.pending (S.left from.new)) inbox.new.target)
