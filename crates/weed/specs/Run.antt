@@ -42,10 +42,10 @@ IsEarly exit.TurnsSpent = ⊥
 IsEarly (exit.BadWords place) = ⊥
 
 -- A run ended before its session: it read nothing and sent nothing.
-pub record EndsUnread (end : Exit) (sent sent' : Option (List Piece)) (left left' : Option (List ℕ)) : Type 0 where
+pub record EndsUnread {S : Type 0} (end : Exit) (sent sent' : Option (List Piece)) (source source' : S) : Type 0 where
   pub early : IsEarly end
   pub unsent : sent' ≡ sent
-  pub unread : left' ≡ left
+  pub unread : source' ≡ source
 
 -- A run ends as its session does, or before it. `Cut` says that a send failed, and `Leaves` what came of the run
 -- where its own logs are these: those of its session, or none.

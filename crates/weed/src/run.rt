@@ -85,7 +85,7 @@ pub fn weed<S: Source, H: Host, C: Clock>(
 
     // Over files that are no log the run ends before it reads or sends anything.
     ensures unreadable { (dir : List ℕ) (files : Files) → order_of words.now ≡ Ok dir → H.files world.host ≡ Some files
-        → ((records : List Record) → ¬ IsRecordLog files records) → EndsUnread result.0 (H.sent world.host) (H.sent result.1.host) (S.left world.source) (S.left result.1.source) }
+        → ((records : List Record) → ¬ IsRecordLog files records) → EndsUnread result.0 (H.sent world.host) (H.sent result.1.host) world.source result.1.source }
     ensures words { (place : ℕ) → (result.0 ≡ Exit.BadWords place) ↔ (order_of words.now ≡ Err place) }
     ensures untouched { (place : ℕ) → order_of words.now ≡ Err place → result.1 ≡ world }
     ensures damaged { IfDamagedExit (λ file at. IfSome (H.files world.host) (λ files. IsRecordDamage files file at) × (H.files result.1.host ≡ H.files world.host)) result.0 }
@@ -94,9 +94,10 @@ pub fn weed<S: Source, H: Host, C: Clock>(
     ensures read { IsCauseOf (S.faults world.source) (S.faults result.1.source) (result.0 ≡ Exit.ReadFault) }
     ensures write { IsCauseBeside (H.send_faults world.host) (H.send_faults result.1.host) (result.0 ≡ Exit.WriteFault) (result.0 ≡ Exit.DiskFault) }
 
-    // The host is turned to the directory of the words, once, or the run ends before it reads or sends anything.
-    ensures attached { (dir : List ℕ) → order_of words.now ≡ Ok dir → (H.attachment result.1.host ≡ attached_to dir (H.attachment world.host))
-        ⊎ ((H.attachment result.1.host ≡ H.attachment world.host) × EndsUnread result.0 (H.sent world.host) (H.sent result.1.host) (S.left world.source) (S.left result.1.source)) }
+    // The run's first call of the disk turns the host to the directory of the words, and none turns it elsewhere;
+    // or the run ends before it reads or sends anything.
+    ensures attached { (dir : List ℕ) → order_of words.now ≡ Ok dir → (H.attachment result.1.host ≡ attached_to dir (H.tick world.host) (H.attachment world.host))
+        ⊎ ((H.attachment result.1.host ≡ H.attachment world.host) × EndsUnread result.0 (H.sent world.host) (H.sent result.1.host) world.source result.1.source) }
 {
     let mut world = world;
     match read_words(words) {
@@ -120,15 +121,15 @@ fn filer_once<S: Source, H: Host, C: Clock>(
         → Survives H.tick H.images H.image_since H.sent world.old.host world.new.host result first path last of_run)
         × ReadsNoMore S.left S.reads world.old.source world.new.source first path }
     ensures unreadable { (files : Files) → H.files world.old.host ≡ Some files → ((records : List Record) → ¬ IsRecordLog files records)
-        → EndsUnread result (H.sent world.old.host) (H.sent world.new.host) (S.left world.old.source) (S.left world.new.source) }
+        → EndsUnread result (H.sent world.old.host) (H.sent world.new.host) world.old.source world.new.source }
     ensures good_words { (place : ℕ) → result ≡ Exit.BadWords place → ⊥ }
     ensures damaged { IfDamagedExit (λ file at. IfSome (H.files world.old.host) (λ files. IsRecordDamage files file at) × (H.files world.new.host ≡ H.files world.old.host)) result }
     ensures own { (files : Files) → H.files world.old.host ≡ Some files → IsOwn (H.images world.old.host) → IfDamagedExit (λ _ _. ⊥) result }
     ensures disk { IsCauseOf (H.faults world.old.host) (H.faults world.new.host) (result ≡ Exit.DiskFault) }
     ensures read { IsCauseOf (S.faults world.old.source) (S.faults world.new.source) (result ≡ Exit.ReadFault) }
     ensures write { IsCauseBeside (H.send_faults world.old.host) (H.send_faults world.new.host) (result ≡ Exit.WriteFault) (result ≡ Exit.DiskFault) }
-    ensures attached { (H.attachment world.new.host ≡ attached_to dir.now (H.attachment world.old.host))
-        ⊎ ((H.attachment world.new.host ≡ H.attachment world.old.host) × EndsUnread result (H.sent world.old.host) (H.sent world.new.host) (S.left world.old.source) (S.left world.new.source)) }
+    ensures attached { (H.attachment world.new.host ≡ attached_to dir.now (H.tick world.old.host) (H.attachment world.old.host))
+        ⊎ ((H.attachment world.new.host ≡ H.attachment world.old.host) × EndsUnread result (H.sent world.old.host) (H.sent world.new.host) world.old.source world.new.source) }
 {
     match begin(alloc, dir, &mut world.host) {
         Ok(mut session) => run(alloc, &mut session, world),
@@ -150,8 +151,8 @@ fn begin<H: Host>(alloc: Global, dir: &[u8], host: &mut H) -> Result<Session, Ex
     ensures cause { IsCauseOf (H.faults host.old) (H.faults host.new) (IsErrOf result Exit.DiskFault) }
     ensures sent { (H.sent host.new ≡ H.sent host.old) × (H.send_faults host.new ≡ H.send_faults host.old) }
     ensures attached { MatchResult result
-        (λ _. H.attachment host.new ≡ attached_to dir.now (H.attachment host.old))
-        (λ _. MayAttach dir.now (H.attachment host.old) (H.attachment host.new)) }
+        (λ _. H.attachment host.new ≡ attached_to dir.now (H.tick host.old) (H.attachment host.old))
+        (λ _. MayAttach dir.now (H.tick host.old) (H.attachment host.old) (H.attachment host.new)) }
 {
     let inbox = Inbox::new(alloc)?;
     let standing = make_standing(alloc)?;
@@ -172,7 +173,7 @@ fn attach<H: Host>(alloc: Global, dir: &[u8], host: &mut H) -> Result<(), Exit>
     ensures still { OnlyReads H.tick H.images H.image_since host.old host.new }
     ensures cause { IsCauseOf (H.faults host.old) (H.faults host.new) (IsErrOf result Exit.DiskFault) }
     ensures sent { (H.sent host.new ≡ H.sent host.old) × (H.send_faults host.new ≡ H.send_faults host.old) }
-    ensures attached { Attaches dir.now (H.attachment host.old) (H.attachment host.new) result }
+    ensures attached { Attaches dir.now (H.tick host.old) (H.attachment host.old) (H.attachment host.new) result }
 {
     let place = Word::new(alloc, dir)?;
     host.attach(place)?;

@@ -1,4 +1,4 @@
--- The outside itself, of which contracts see counts alone.
+-- The outside itself, of which contracts see counts, and where it was turned to.
 use Rattle.std.specs.Prelude.{ℕ}
 use Rattle.weed_base.specs.Attachment.{Attachment}
 

@@ -4,10 +4,11 @@ ghost use Rattle.weed_base.specs.Attachment.{unattached, attached_to};
 use crate::bytes::Word;
 use std::marker::Model;
 
-/// The place that a disk was turned to last, and how often it was turned to one.
+/// The place that a disk was turned to last, at which tick, and how often it was turned to one.
 #[derive(Debug, Drop)]
 pub(crate) struct Attachment {
     place: Option<Word>,
+    tick: u64,
     count: u64,
 }
 
@@ -18,7 +19,7 @@ impl Model for Attachment {
 
     ghost coded = { specs.attachment_code };
 
-    ghost view = { λ attachment. record { place = attachment.place; count = attachment.count } };
+    ghost view = { λ attachment. record { place = attachment.place; tick = attachment.tick; count = attachment.count } };
 }
 
 impl Attachment {
@@ -28,14 +29,16 @@ impl Attachment {
     {
         Attachment {
             place: None,
+            tick: 0,
             count: 0,
         }
     }
 
-    /// Once more, to this place. The count stays at its end.
-    pub(crate) fn turn_to(&mut self, place: Word)
-        ensures { self.new ≡ attached_to place self.old }
+    /// Once more, to this place, at a tick. The count stays at its end.
+    pub(crate) fn turn_to(&mut self, place: Word, tick: u64)
+        ensures { self.new ≡ attached_to place tick self.old }
     {
+        self.tick = tick;
         self.place = Some(place);
         self.count = self.count.saturating_add(1);
     }

@@ -84,9 +84,9 @@ pub trait Disk {
         ensures { result ≡ tick self.now };
 
     /// Turns to the directory at that place, which the real form makes where it isn't there. Memory forms
-    /// stay as they are.
+    /// keep their files, and note the place.
     fn attach(&mut self, place: Word) -> Result<(), Failed>
-        ensures attached { Attaches place (attachment self.old) (attachment self.new) result }
+        ensures attached { Attaches place (tick self.old) (attachment self.old) (attachment self.new) result }
         ensures files { files self.new ≡ files self.old }
         ensures images { NoMore (images self.old) (images self.new) }
         ensures time { Elapses (tick self.old) (tick self.new) (image_since self.old) (image_since self.new) (images self.new) }

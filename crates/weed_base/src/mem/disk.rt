@@ -213,7 +213,7 @@ impl Disk for MemDisk {
     }
 
     fn attach(&mut self, place: Word) -> Result<(), Failed>
-        ensures attached { Attaches place self.old.attachment self.new.attachment result }
+        ensures attached { Attaches place self.old.calls.made self.old.attachment self.new.attachment result }
         ensures calls { self.new.calls ≡ called self.old.calls }
         ensures only { IsErr result ↔ IsTrue (fails_next self.old.calls) }
         ensures past { (self.new.start ≡ self.old.start) × (self.new.past ≡ self.old.past) × (self.new.untold ≡ self.old.untold) }
@@ -223,8 +223,9 @@ impl Disk for MemDisk {
         ensures cause { HasCause self.old.calls.faults self.new.calls.faults result }
         ensures spent { self.old.calls.made ≡ 2 ^ 64 - 1 → IsErr result }
     {
+        let tick = self.calls.made();
         self.look()?;
-        self.attachment.turn_to(place);
+        self.attachment.turn_to(place, tick);
         Ok(())
     }
 

@@ -171,10 +171,11 @@ impl<R: Files<File = File> + AllocGlobal + Clone + Drop> Disk for DirDisk<R> {
     }
 
     fn attach(&mut self, place: Word) -> Result<(), Failed> {
+        let tick = self.made;
         self.begin()?;
         let answer = self.state.attach(&self.rt, place.as_slice());
         self.faults.note(answer)?;
-        self.attachment.turn_to(place);
+        self.attachment.turn_to(place, tick);
         Ok(())
     }
 

@@ -18,7 +18,8 @@ use std::marker::Model;
 use std::rt::Files;
 
 /// A host over a directory of the system, which sends to a writer, as standard output. Each send is one
-/// write. Contracts see its counts of faults.
+/// write. Contracts see its counts, and where it was
+/// turned to.
 #[derive(Drop)]
 pub struct DirHost<R, W> {
     disk: DirDisk<R>,

@@ -216,6 +216,7 @@ impl<F: SystemFile + Drop, R: Files<File = F> + AllocGlobal + Clone + Drop> Fold
     pub(crate) fn make(&mut self, name: &FileName) -> io::Result<()>
         ensures marked { OnOk result (Awaiting name.now Awaits.Everything self.new.kept.files.items) }
         ensures still { StillAwaits self.old.kept.files.items self.new.kept.files.items }
+        ensures made { OnOk result ((self.new.kept.names_await ≡ true) ⊎ AnsweredBy F.answered (CutTo 0) name.now self.new.kept.files.items) }
         ensures names { (self.new.kept.names_await ≡ self.old.kept.names_await) ⊎ (self.new.kept.names_await ≡ true) }
     {
         match self.place_of(name)? {

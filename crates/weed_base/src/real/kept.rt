@@ -210,7 +210,8 @@ impl<F: SystemFile + Drop> KeptFiles<F> {
 
     pub(super) fn write_at(&mut self, place: usize, at: u64, piece: &[u8]) -> io::Result<()>
         requires { place < length self.old.files.items }
-        ensures marked { (name : List ℕ) → IsNamedAt name place self.old.files.items → OnOk result (Awaiting name Awaits.Data self.new.files.items) }
+        ensures fits { OnOk result (at + length piece.now < 2 ^ 63) }
+        ensures marked { (name : List ℕ) → IsNamedAt name place self.old.files.items → at + length piece.now < 2 ^ 63 → Awaiting name Awaits.Data self.new.files.items }
         ensures written { (name : List ℕ) → IsNamedAt name place self.old.files.items → OnOk result (AnsweredBy F.answered (Wrote at piece.now) name self.new.files.items) }
         ensures still { StillAwaits self.old.files.items self.new.files.items }
         ensures names { self.new.names_await ≡ self.old.names_await }
