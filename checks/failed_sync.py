@@ -18,9 +18,9 @@ def requests(names):
     return b"".join(f"POST /{name}/ HTTP/1.1\r\nHost: x\r\n\r\n".encode() for name in names)
 
 
-def run(place, names, before=()):
+def run(place, names, under=()):
     """One run, perhaps below another program."""
-    return subprocess.run([*before, PROGRAM, "filer.once", "-dir=" + place], input=requests(names), capture_output=True)
+    return subprocess.run([*under, PROGRAM, "filer.once", "-dir=" + place], input=requests(names), capture_output=True, timeout=120)
 
 
 def paths_in(place):

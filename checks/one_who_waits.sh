@@ -6,16 +6,18 @@ cd "$(dirname "${BASH_SOURCE[0]}")/.." || exit 1
 
 work=$(mktemp -d) || exit 1
 trap 'rm -rf "$work"' EXIT
+trap '' PIPE
 
 ./weed --version > "$work/version" || exit 1
-coproc filer { ./weed filer.once "-dir=$work/data"; }
+coproc filer { exec timeout 120 ./weed filer.once "-dir=$work/data"; }
 pid=$filer_PID
+trap 'kill "$pid" 2> /dev/null; rm -rf "$work"' EXIT
 exec {to}>&"${filer[1]}" {from}<&"${filer[0]}"
 eval "exec ${filer[1]}>&- ${filer[0]}<&-"
 
 # Sends the text, and waits for the answer.
 ask() {
-    printf '%s' "$1" >&"$to"
+    printf '%s' "$1" >&"$to" || { echo "one_who_waits: it reads no more"; exit 1; }
     answer=
     while [ "${#answer}" -lt "${#2}" ]; do
         IFS= read -r -d '' -N 1 -t 20 byte <&"$from" || { echo "one_who_waits: no more came behind: $answer"; exit 1; }

@@ -173,4 +173,4 @@ def main(trace, place, kept):
 
 
 if __name__ == "__main__":
-    main(sys.argv[1], os.path.realpath(sys.argv[2]), sys.argv[3])
+    main(sys.argv[1], sys.argv[2], sys.argv[3])

@@ -8,7 +8,7 @@ cd "$(dirname "${BASH_SOURCE[0]}")/.." || exit 1
 command -v strace > /dev/null || { echo "settled_before_answer: strace is missing"; exit 77; }
 command -v python3 > /dev/null || { echo "settled_before_answer: python3 is missing"; exit 77; }
 
-work=$(mktemp -d) || exit 1
+work=$(mktemp -d) && work=$(cd "$work" && pwd -P) || exit 1
 trap 'rm -rf "$work"' EXIT
 ./weed --version > /dev/null || exit 1
 
