@@ -242,7 +242,10 @@ mod tests {
     {
         let (found, head) = heads_of(alloc, source_of(alloc, text, &[])?.with_most(most))?;
         let is_so = head == last && found.as_str() == targets;
-        assert!(rt; is_so, "{most} bytes a read: {head:?} after {found:?}");
+        assert!(rt;
+            is_so,
+            "{text:?}, {most} bytes a read: {head:?} after {found:?}"
+        );
         Ok(())
     }
 

@@ -318,8 +318,8 @@ fn is_answered_again(alloc: Global, ran: &Ran, pick: Pick) -> Result<bool, Fail>
     Ok(again.status == 0 && again.sent() == MADE.as_bytes())
 }
 
-/// Whether an answer tells of the fault of that call, which the run and each crash after it bear.
-fn is_told(rt: &impl Abort, alloc: Global, call: u64) -> Result<bool, Fail> {
+/// Checks a run of which that call fails, and what a crash after it leaves. Answers whether an answer told of it.
+fn check_fault(rt: &impl Abort, alloc: Global, call: u64) -> Result<bool, Fail> {
     let ran = run_with_a_fault(alloc, call)?;
     assert!(rt; ends_as_its_disk(&ran), "call {call}");
     for pick in PICKS {
@@ -333,7 +333,7 @@ fn is_told(rt: &impl Abort, alloc: Global, call: u64) -> Result<bool, Fail> {
 fn each_call_of_the_disk_may_fail(rt: HostRuntime) -> Result<(), Fail> {
     let mut told = 0;
     for call in 1..=30 {
-        told = u32::saturating_add(told, u32::from(is_told(&rt, rt.alloc(), call)?));
+        told = u32::saturating_add(told, u32::from(check_fault(&rt, rt.alloc(), call)?));
     }
     assert!(rt; told >= 4, "{told} faults of an append");
     Ok(())
