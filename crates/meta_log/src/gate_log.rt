@@ -2,6 +2,7 @@ ghost use Rattle.std.specs.Prelude.{◌≡◌, ◌≤◌, ◌<◌, ◌+◌, ◌-
 ghost use Rattle.weed_base.specs.Told.{HasCause, IsCauseOf};
 ghost use Rattle.weed_base.specs.Files.{BothTold, Files};
 ghost use Rattle.weed_base.specs.Images.{LeavesOnly, OnlyReads};
+ghost use Rattle.weed_base.specs.Beside.{StaysBeside};
 ghost use Rattle.meta_log.specs.Making.{LeavesOthers};
 ghost use Rattle.meta_log.specs.LogText.{segment_name, ChangesOnly, Suits, MayKeep, IsDamage, IsLogText};
 
@@ -51,8 +52,7 @@ impl GateLog {
 
         ensures others { BothTold (LeavesOthers stem) (D.files disk.old) (D.files disk.new) }
         ensures cause { IsCauseOf (D.faults disk.old) (D.faults disk.new) (IsErrOf result LogFault.DiskFault) }
-        ensures sent { (D.sent disk.new ≡ D.sent disk.old) × (D.send_faults disk.new ≡ D.send_faults disk.old) }
-        ensures attachment { D.attachment disk.new ≡ D.attachment disk.old }
+        ensures beside { StaysBeside D.sent D.send_faults D.attachment disk.old disk.new }
     {
         let gate = open_stem(alloc, disk, stem)?;
         Ok(GateLog { stem, gate })
@@ -83,8 +83,7 @@ impl GateLog {
         ensures calls { D.tick disk.new ≤ D.tick disk.old + 4 }
         ensures others { BothTold (ChangesOnly (segment_name (stem_of self.old) 1)) (D.files disk.old) (D.files disk.new) }
         ensures cause { HasCause (D.faults disk.old) (D.faults disk.new) result }
-        ensures sent { (D.sent disk.new ≡ D.sent disk.old) × (D.send_faults disk.new ≡ D.send_faults disk.old) }
-        ensures attachment { D.attachment disk.new ≡ D.attachment disk.old }
+        ensures beside { StaysBeside D.sent D.send_faults D.attachment disk.old disk.new }
     {
         let segment = first_segment(self.stem);
         let behind = text.ready();
@@ -117,8 +116,7 @@ impl GateLog {
         ensures files { D.files disk.new ≡ D.files disk.old }
         ensures still { OnlyReads D.tick D.images D.image_since disk.old disk.new }
         ensures cause { IsCauseOf (D.faults disk.old) (D.faults disk.new) (IsErrOf result LogFault.DiskFault) }
-        ensures sent { (D.sent disk.new ≡ D.sent disk.old) × (D.send_faults disk.new ≡ D.send_faults disk.old) }
-        ensures attachment { D.attachment disk.new ≡ D.attachment disk.old }
+        ensures beside { StaysBeside D.sent D.send_faults D.attachment disk.old disk.new }
     {
         let name = first_segment(self.stem);
         let mut reading = Reading::begin(alloc, disk, &name, place.at)?;

@@ -2,6 +2,7 @@ ghost use Rattle.std.specs.Prelude.{◌≡◌, OnOk, OnErr, IfSome};
 ghost use Rattle.weed_base.specs.Told.{HasCause};
 ghost use Rattle.weed_base.specs.Files.{BothTold, Files};
 ghost use Rattle.weed_base.specs.Images.{Only, LeavesOnly};
+ghost use Rattle.weed_base.specs.Beside.{StaysBeside};
 ghost use Rattle.meta_log.specs.LogText.{segment_name, on_name, NoneFrom, ChangesOnly, MayKeep};
 ghost use Rattle.meta_log.specs.Making.{IsPrepared, IsFresh, IsFreshOrEmpty, LeavesOthers};
 
@@ -19,8 +20,7 @@ fn make_segment<D: Disk>(disk: &mut D, stem: Stem) -> Result<(), Failed>
     ensures settled { OnOk result (Only (D.files disk.new) (D.images disk.new)) }
     ensures others { BothTold (ChangesOnly (segment_name stem 1)) (D.files disk.old) (D.files disk.new) }
     ensures cause { HasCause (D.faults disk.old) (D.faults disk.new) result }
-    ensures sent { (D.sent disk.new ≡ D.sent disk.old) × (D.send_faults disk.new ≡ D.send_faults disk.old) }
-    ensures attachment { D.attachment disk.new ≡ D.attachment disk.old }
+    ensures beside { StaysBeside D.sent D.send_faults D.attachment disk.old disk.new }
 {
     let segment = first_segment(stem);
     disk.make(&segment)?;
@@ -37,8 +37,7 @@ fn make_on<D: Disk>(disk: &mut D, stem: Stem) -> Result<(), Failed>
     ensures settled { OnOk result (Only (D.files disk.new) (D.images disk.new)) }
     ensures others { BothTold (ChangesOnly (on_name stem 1)) (D.files disk.old) (D.files disk.new) }
     ensures cause { HasCause (D.faults disk.old) (D.faults disk.new) result }
-    ensures sent { (D.sent disk.new ≡ D.sent disk.old) × (D.send_faults disk.new ≡ D.send_faults disk.old) }
-    ensures attachment { D.attachment disk.new ≡ D.attachment disk.old }
+    ensures beside { StaysBeside D.sent D.send_faults D.attachment disk.old disk.new }
 {
     disk.make(&first_on(stem))?;
     disk.sync()
@@ -54,8 +53,7 @@ pub fn make_first<D: Disk>(disk: &mut D, stem: Stem) -> Result<(), Failed>
     ensures settled { OnOk result (Only (D.files disk.new) (D.images disk.new)) }
     ensures others { BothTold (LeavesOthers stem) (D.files disk.old) (D.files disk.new) }
     ensures cause { HasCause (D.faults disk.old) (D.faults disk.new) result }
-    ensures sent { (D.sent disk.new ≡ D.sent disk.old) × (D.send_faults disk.new ≡ D.send_faults disk.old) }
-    ensures attachment { D.attachment disk.new ≡ D.attachment disk.old }
+    ensures beside { StaysBeside D.sent D.send_faults D.attachment disk.old disk.new }
 {
     make_segment(disk, stem)?;
     make_on(disk, stem)

@@ -2,6 +2,7 @@ ghost use Rattle.std.specs.Prelude.{◌≡◌, ◌<◌, ◌≤◌, ◌+◌, ◌+
 ghost use Rattle.weed_base.specs.Told.{HasCause, IsCauseOf};
 ghost use Rattle.weed_base.specs.Files.{BothTold, Files};
 ghost use Rattle.weed_base.specs.Images.{LeavesOnly, OnlyReads};
+ghost use Rattle.weed_base.specs.Beside.{StaysBeside};
 ghost use Rattle.name_core.specs.declared.change.Record.{Record};
 ghost use Rattle.name_core.specs.Log.{end_of_time};
 ghost use Rattle.meta_log.specs.Making.{LeavesOthers};
@@ -62,8 +63,7 @@ impl MetaLog {
 
         ensures others { BothTold (LeavesOthers Log) (D.files disk.old) (D.files disk.new) }
         ensures cause { IsCauseOf (D.faults disk.old) (D.faults disk.new) (IsErrOf result LogFault.DiskFault) }
-        ensures sent { (D.sent disk.new ≡ D.sent disk.old) × (D.send_faults disk.new ≡ D.send_faults disk.old) }
-        ensures attachment { D.attachment disk.new ≡ D.attachment disk.old }
+        ensures beside { StaysBeside D.sent D.send_faults D.attachment disk.old disk.new }
     {
         let mut records = RisingRecords {
             front: Front { count: 0, time: 0 },
@@ -109,8 +109,7 @@ impl MetaLog {
         ensures calls { D.tick disk.new ≤ D.tick disk.old + 4 }
         ensures others { BothTold (ChangesOnly (segment_name Log 1)) (D.files disk.old) (D.files disk.new) }
         ensures cause { HasCause (D.faults disk.old) (D.faults disk.new) result }
-        ensures sent { (D.sent disk.new ≡ D.sent disk.old) × (D.send_faults disk.new ≡ D.send_faults disk.old) }
-        ensures attachment { D.attachment disk.new ≡ D.attachment disk.old }
+        ensures beside { StaysBeside D.sent D.send_faults D.attachment disk.old disk.new }
     {
         self.log.append(disk, text)?;
         self.front = Front {
@@ -136,8 +135,7 @@ impl MetaLog {
         ensures files { D.files disk.new ≡ D.files disk.old }
         ensures still { OnlyReads D.tick D.images D.image_since disk.old disk.new }
         ensures cause { IsCauseOf (D.faults disk.old) (D.faults disk.new) (IsErrOf result LogFault.DiskFault) }
-        ensures sent { (D.sent disk.new ≡ D.sent disk.old) × (D.send_faults disk.new ≡ D.send_faults disk.old) }
-        ensures attachment { D.attachment disk.new ≡ D.attachment disk.old }
+        ensures beside { StaysBeside D.sent D.send_faults D.attachment disk.old disk.new }
     {
         let name = first_segment(Stem::Log);
         let mut reading = Reading::begin(alloc, disk, &name, 0)?;
@@ -179,8 +177,7 @@ impl MetaLog {
         ensures files { D.files disk.new ≡ D.files disk.old }
         ensures still { OnlyReads D.tick D.images D.image_since disk.old disk.new }
         ensures cause { IsCauseOf (D.faults disk.old) (D.faults disk.new) (IsErrOf result LogFault.DiskFault) }
-        ensures sent { (D.sent disk.new ≡ D.sent disk.old) × (D.send_faults disk.new ≡ D.send_faults disk.old) }
-        ensures attachment { D.attachment disk.new ≡ D.attachment disk.old }
+        ensures beside { StaysBeside D.sent D.send_faults D.attachment disk.old disk.new }
     {
         self.log.read_from(alloc, disk, place, room)
     }

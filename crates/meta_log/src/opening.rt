@@ -2,6 +2,7 @@ ghost use Rattle.std.specs.Prelude.{◌≡◌, ◌<◌, ◌≤◌, ◌-◌, ◌^
 ghost use Rattle.weed_base.specs.Told.{IsCauseOf};
 ghost use Rattle.weed_base.specs.Files.{BothTold, Files};
 ghost use Rattle.weed_base.specs.Images.{Only, LeavesOnly};
+ghost use Rattle.weed_base.specs.Beside.{StaysBeside};
 ghost use Rattle.meta_log.specs.LogText.{HasText, HasDamage, IsAllowed, MayKeep};
 ghost use Rattle.meta_log.specs.Making.{LeavesOthers};
 ghost use Rattle.meta_log.specs.Opening.{IsOpen};
@@ -41,8 +42,7 @@ pub fn open_first<D: Disk, C: Check>(
     ensures settled { IfOk result (λ _. Only (D.files disk.new) (D.images disk.new)) }
     ensures others { BothTold (LeavesOthers stem) (D.files disk.old) (D.files disk.new) }
     ensures cause { IsCauseOf (D.faults disk.old) (D.faults disk.new) (IsErrOf result LogFault.DiskFault) }
-    ensures sent { (D.sent disk.new ≡ D.sent disk.old) × (D.send_faults disk.new ≡ D.send_faults disk.old) }
-    ensures attachment { D.attachment disk.new ≡ D.attachment disk.old }
+    ensures beside { StaysBeside D.sent D.send_faults D.attachment disk.old disk.new }
 {
     disk.sync()?;
     match find_standing(alloc, disk, stem)? {
@@ -76,8 +76,7 @@ pub fn open_stem<D: Disk>(alloc: Global, disk: &mut D, stem: Stem) -> Result<u64
     ensures settled { IfOk result (λ _. Only (D.files disk.new) (D.images disk.new)) }
     ensures others { BothTold (LeavesOthers stem) (D.files disk.old) (D.files disk.new) }
     ensures cause { IsCauseOf (D.faults disk.old) (D.faults disk.new) (IsErrOf result LogFault.DiskFault) }
-    ensures sent { (D.sent disk.new ≡ D.sent disk.old) × (D.send_faults disk.new ≡ D.send_faults disk.old) }
-    ensures attachment { D.attachment disk.new ≡ D.attachment disk.old }
+    ensures beside { StaysBeside D.sent D.send_faults D.attachment disk.old disk.new }
 {
     match stem {
         Stem::Log => open_first(alloc, disk, stem, &mut AnyPayload),

@@ -2,6 +2,7 @@ ghost use Rattle.std.specs.Prelude.{◌≡◌, ◌+◌, ◌≤◌, ◌<◌, ◌^
 ghost use Rattle.weed_base.specs.Told.{HasCause, IsCauseOf};
 ghost use Rattle.weed_base.specs.Files.{content};
 ghost use Rattle.weed_base.specs.Images.{OnlyReads};
+ghost use Rattle.weed_base.specs.Beside.{StaysBeside};
 ghost use Rattle.meta_log.specs.Stretch.{Stretch, IsOf, IsFilled, GrowsBy};
 ghost use Rattle.meta_log.specs.Faults.{IfDamaged};
 
@@ -58,8 +59,7 @@ fn extend_from<D: Disk>(
     ensures files { D.files disk.new ≡ D.files disk.old }
     ensures still { OnlyReads D.tick D.images D.image_since disk.old disk.new }
     ensures cause { IsCauseOf (D.faults disk.old) (D.faults disk.new) (IsErrOf result LogFault.DiskFault) }
-    ensures sent { (D.sent disk.new ≡ D.sent disk.old) × (D.send_faults disk.new ≡ D.send_faults disk.old) }
-    ensures attachment { D.attachment disk.new ≡ D.attachment disk.old }
+    ensures beside { StaysBeside D.sent D.send_faults D.attachment disk.old disk.new }
 {
     let end = bytes.len();
     bytes.resize(end + room, 0)?;
@@ -94,8 +94,7 @@ impl Reading {
         ensures files { D.files disk.new ≡ D.files disk.old }
         ensures still { OnlyReads D.tick D.images D.image_since disk.old disk.new }
         ensures cause { HasCause (D.faults disk.old) (D.faults disk.new) result }
-        ensures sent { (D.sent disk.new ≡ D.sent disk.old) × (D.send_faults disk.new ≡ D.send_faults disk.old) }
-        ensures attachment { D.attachment disk.new ≡ D.attachment disk.old }
+        ensures beside { StaysBeside D.sent D.send_faults D.attachment disk.old disk.new }
     {
         let size = disk.size(name)?.unwrap_or(0);
         Ok(Reading::new(alloc, at.min(size), size))
@@ -142,8 +141,7 @@ impl Reading {
         ensures files { D.files disk.new ≡ D.files disk.old }
         ensures still { OnlyReads D.tick D.images D.image_since disk.old disk.new }
         ensures cause { IsCauseOf (D.faults disk.old) (D.faults disk.new) (IsErrOf result LogFault.DiskFault) }
-        ensures sent { (D.sent disk.new ≡ D.sent disk.old) × (D.send_faults disk.new ≡ D.send_faults disk.old) }
-        ensures attachment { D.attachment disk.new ≡ D.attachment disk.old }
+        ensures beside { StaysBeside D.sent D.send_faults D.attachment disk.old disk.new }
     {
         let left = (self.size - self.at) as usize;
         let held = self.bytes.len() - self.start;

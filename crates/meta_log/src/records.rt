@@ -3,6 +3,7 @@ ghost use Rattle.std.specs.Bool.{OnTrue};
 ghost use Rattle.weed_base.specs.Told.{IsCauseOf};
 ghost use Rattle.weed_base.specs.Files.{content};
 ghost use Rattle.weed_base.specs.Images.{OnlyReads};
+ghost use Rattle.weed_base.specs.Beside.{StaysBeside};
 ghost use Rattle.meta_log.specs.Stretch.{IsOf};
 ghost use Rattle.meta_log.specs.Skip.{SkipsOne, SkipsTo};
 ghost use Rattle.meta_log.specs.Faults.{IfDamaged};
@@ -58,8 +59,7 @@ fn skip_one<D: Disk>(
     ensures files { D.files disk.new ≡ D.files disk.old }
     ensures still { OnlyReads D.tick D.images D.image_since disk.old disk.new }
     ensures cause { IsCauseOf (D.faults disk.old) (D.faults disk.new) (IsErrOf result LogFault.DiskFault) }
-    ensures sent { (D.sent disk.new ≡ D.sent disk.old) × (D.send_faults disk.new ≡ D.send_faults disk.old) }
-    ensures attachment { D.attachment disk.new ≡ D.attachment disk.old }
+    ensures beside { StaysBeside D.sent D.send_faults D.attachment disk.old disk.new }
 {
     let Head::Item(size) = left_head(disk, name, gate, reading)? else {
         return Ok(false);
@@ -89,8 +89,7 @@ pub fn skip_past<D: Disk>(
     ensures files { D.files disk.new ≡ D.files disk.old }
     ensures still { OnlyReads D.tick D.images D.image_since disk.old disk.new }
     ensures cause { IsCauseOf (D.faults disk.old) (D.faults disk.new) (IsErrOf result LogFault.DiskFault) }
-    ensures sent { (D.sent disk.new ≡ D.sent disk.old) × (D.send_faults disk.new ≡ D.send_faults disk.old) }
-    ensures attachment { D.attachment disk.new ≡ D.attachment disk.old }
+    ensures beside { StaysBeside D.sent D.send_faults D.attachment disk.old disk.new }
 {
     'skipping: while skip_one(alloc, disk, name, gate, reading, after)? {}
     Ok(())

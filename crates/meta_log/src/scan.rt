@@ -2,6 +2,7 @@ ghost use Rattle.std.specs.Prelude.{◌≡◌, ◌<◌, ◌≤◌, ◌-◌, ◌^
 ghost use Rattle.weed_base.specs.Told.{IsCauseOf};
 ghost use Rattle.weed_base.specs.Files.{content};
 ghost use Rattle.weed_base.specs.Images.{OnlyReads};
+ghost use Rattle.weed_base.specs.Beside.{StaysBeside};
 ghost use Rattle.meta_log.specs.Stretch.{IsOf};
 ghost use Rattle.meta_log.specs.Head.{IsNextHead, HasPayload};
 ghost use Rattle.meta_log.specs.Scan.{IsScanned, IsAtEnd, IsStep, GoesOn};
@@ -46,8 +47,7 @@ pub fn next_head<D: Disk>(
     ensures files { D.files disk.new ≡ D.files disk.old }
     ensures still { OnlyReads D.tick D.images D.image_since disk.old disk.new }
     ensures cause { IsCauseOf (D.faults disk.old) (D.faults disk.new) (IsErrOf result LogFault.DiskFault) }
-    ensures sent { (D.sent disk.new ≡ D.sent disk.old) × (D.send_faults disk.new ≡ D.send_faults disk.old) }
-    ensures attachment { D.attachment disk.new ≡ D.attachment disk.old }
+    ensures beside { StaysBeside D.sent D.send_faults D.attachment disk.old disk.new }
 {
     reading.fill(disk, name, AHEAD)?;
     let head = head_of(reading.held());
@@ -78,8 +78,7 @@ fn take_step<D: Disk, C: Check>(
     ensures files { D.files disk.new ≡ D.files disk.old }
     ensures still { OnlyReads D.tick D.images D.image_since disk.old disk.new }
     ensures cause { IsCauseOf (D.faults disk.old) (D.faults disk.new) (IsErrOf result LogFault.DiskFault) }
-    ensures sent { (D.sent disk.new ≡ D.sent disk.old) × (D.send_faults disk.new ≡ D.send_faults disk.old) }
-    ensures attachment { D.attachment disk.new ≡ D.attachment disk.old }
+    ensures beside { StaysBeside D.sent D.send_faults D.attachment disk.old disk.new }
 {
     match next_head(disk, name, reading)? {
         Head::Closed => Ok(Step::End),
@@ -112,8 +111,7 @@ pub fn scan<D: Disk, C: Check>(
     ensures files { D.files disk.new ≡ D.files disk.old }
     ensures still { OnlyReads D.tick D.images D.image_since disk.old disk.new }
     ensures cause { IsCauseOf (D.faults disk.old) (D.faults disk.new) (IsErrOf result LogFault.DiskFault) }
-    ensures sent { (D.sent disk.new ≡ D.sent disk.old) × (D.send_faults disk.new ≡ D.send_faults disk.old) }
-    ensures attachment { D.attachment disk.new ≡ D.attachment disk.old }
+    ensures beside { StaysBeside D.sent D.send_faults D.attachment disk.old disk.new }
 {
     let name = first_segment(stem);
     let mut reading = Reading::begin(alloc, disk, &name, 0)?;

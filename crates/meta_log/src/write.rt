@@ -3,6 +3,7 @@ ghost use Rattle.std.specs.Option.{option_map};
 ghost use Rattle.weed_base.specs.Told.{HasCause};
 ghost use Rattle.weed_base.specs.Files.{IsWithin, written, MayWrite, BothTold};
 ghost use Rattle.weed_base.specs.Images.{Only, Tears, LeavesOnly};
+ghost use Rattle.weed_base.specs.Beside.{StaysBeside};
 ghost use Rattle.meta_log.specs.Images.{ComesBy};
 ghost use Rattle.meta_log.specs.LogText.{ChangesOnly};
 
@@ -25,8 +26,7 @@ pub fn write_settled<D: Disk>(
     ensures others { BothTold (ChangesOnly name.now) (D.files disk.old) (D.files disk.new) }
     ensures bound { OnOk result (at + length piece.now < 2 ^ 63) }
     ensures cause { HasCause (D.faults disk.old) (D.faults disk.new) result }
-    ensures sent { (D.sent disk.new ≡ D.sent disk.old) × (D.send_faults disk.new ≡ D.send_faults disk.old) }
-    ensures attachment { D.attachment disk.new ≡ D.attachment disk.old }
+    ensures beside { StaysBeside D.sent D.send_faults D.attachment disk.old disk.new }
 {
     disk.write_at(name, at, piece)?;
     disk.sync()

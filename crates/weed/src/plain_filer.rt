@@ -1,6 +1,7 @@
 ghost use Rattle.std.specs.Prelude.{◌≡◌, ◌≤◌, ◌<◌, ◌+◌, false, List, length, Some, IfOk, IfSome, IfErr, IsErrOf};
 ghost use Rattle.weed_base.specs.Told.{IsCauseOf};
 ghost use Rattle.weed_base.specs.Files.{BothTold, Files};
+ghost use Rattle.weed_base.specs.Beside.{StaysBeside};
 ghost use Rattle.name_core.specs.declared.change.Record.{Record};
 ghost use Rattle.name_core.specs.RecordText.{record_text, CanBeWritten};
 
@@ -84,8 +85,7 @@ impl PlainFiler {
         ensures own { (files : Files) → D.files disk.old ≡ Some files → IsOwn (D.images disk.old) → IfErr result (IfDamaged (λ _ _. ⊥)) }
 
         ensures cause { IsCauseOf (D.faults disk.old) (D.faults disk.new) (IsErrOf result LogFault.DiskFault) }
-        ensures sent { (D.sent disk.new ≡ D.sent disk.old) × (D.send_faults disk.new ≡ D.send_faults disk.old) }
-        ensures attachment { D.attachment disk.new ≡ D.attachment disk.old }
+        ensures beside { StaysBeside D.sent D.send_faults D.attachment disk.old disk.new }
     {
         let log = MetaLog::open(alloc, disk)?;
         let names = replay(alloc, disk, &log)?;
@@ -110,8 +110,7 @@ impl PlainFiler {
             (Settling D.tick D.images D.image_since disk.old disk.new records) (Tearing D.tick D.images D.image_since disk.old disk.new records) records result }
         ensures cause { IsCauseOf (D.faults disk.old) (D.faults disk.new) (IsErrOf result MakeFault.DiskFault) }
         ensures held { ¬ (IsErrOf result MakeFault.DiskFault) → (records : List Record) × HoldsFiler (D.files disk.new) self.new records }
-        ensures sent { (D.sent disk.new ≡ D.sent disk.old) × (D.send_faults disk.new ≡ D.send_faults disk.old) }
-        ensures attachment { D.attachment disk.new ≡ D.attachment disk.old }
+        ensures beside { StaysBeside D.sent D.send_faults D.attachment disk.old disk.new }
         ensures calls { D.tick disk.new ≤ D.tick disk.old + 4 }
     {
         let command = Command::MakeDir { path };
@@ -144,8 +143,7 @@ impl PlainFiler {
             (Tearing D.tick D.images D.image_since disk.old disk.new records) records result }
         ensures cause { IsCauseOf (D.faults disk.old) (D.faults disk.new) (IsErrOf result MakeFault.DiskFault) }
         ensures held { ¬ (IsErrOf result MakeFault.DiskFault) → (records : List Record) × HoldsFiler (D.files disk.new) self.new records }
-        ensures sent { (D.sent disk.new ≡ D.sent disk.old) × (D.send_faults disk.new ≡ D.send_faults disk.old) }
-        ensures attachment { D.attachment disk.new ≡ D.attachment disk.old }
+        ensures beside { StaysBeside D.sent D.send_faults D.attachment disk.old disk.new }
         ensures calls { D.tick disk.new ≤ D.tick disk.old + 4 }
     {
         let text = planned.write(alloc)?;

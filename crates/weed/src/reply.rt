@@ -1,6 +1,7 @@
 ghost use Rattle.std.specs.Prelude.{◌≡◌, ◌≤◌, ◌+◌, true, false, string_bytes, List, ℕ, Some, IfOk, IsErrOf};
 ghost use Rattle.weed_base.specs.Files.{Files};
 ghost use Rattle.weed_base.specs.Told.{IsCauseOf};
+ghost use Rattle.weed_base.specs.Beside.{StaysBeside};
 ghost use Rattle.name_core.specs.declared.change.Record.{Record};
 ghost use Rattle.weed.specs.Reply.{path_text, bad_path, refusal_text, last_part};
 ghost use Rattle.weed.specs.Answer.{created_text, refused_text};
@@ -124,8 +125,7 @@ pub fn reply_to_target<D: Disk, C: Clock>(
         (D.files disk.new) (C.moments clock.new) filer.new result }
     ensures held { ¬ (IsErrOf result ReplyFault.DiskFault) → (records : List Record) × HoldsFiler (D.files disk.new) filer.new records }
     ensures cause { IsCauseOf (D.faults disk.old) (D.faults disk.new) (IsErrOf result ReplyFault.DiskFault) }
-    ensures sent { (D.sent disk.new ≡ D.sent disk.old) × (D.send_faults disk.new ≡ D.send_faults disk.old) }
-    ensures attachment { D.attachment disk.new ≡ D.attachment disk.old }
+    ensures beside { StaysBeside D.sent D.send_faults D.attachment disk.old disk.new }
     ensures calls { D.tick disk.new ≤ D.tick disk.old + 4 }
 {
     match Path::read(alloc, path_of_target(target)) {
@@ -149,8 +149,7 @@ fn reply_to_path<D: Disk, C: Clock>(
         (D.files disk.new) (C.moments clock.new) filer.new result }
     ensures held { ¬ (IsErrOf result ReplyFault.DiskFault) → (records : List Record) × HoldsFiler (D.files disk.new) filer.new records }
     ensures cause { IsCauseOf (D.faults disk.old) (D.faults disk.new) (IsErrOf result ReplyFault.DiskFault) }
-    ensures sent { (D.sent disk.new ≡ D.sent disk.old) × (D.send_faults disk.new ≡ D.send_faults disk.old) }
-    ensures attachment { D.attachment disk.new ≡ D.attachment disk.old }
+    ensures beside { StaysBeside D.sent D.send_faults D.attachment disk.old disk.new }
     ensures calls { D.tick disk.new ≤ D.tick disk.old + 4 }
 {
     let made = created_reply(alloc, &path)?;

@@ -1,7 +1,7 @@
 ghost use Rattle.std.specs.Prelude.{◌≡◌, ◌≢◌, ◌↔◌, ◌≤◌, ◌⊎◌, List, ℕ, length, Ok, Err, Some, IfOk, IfErr, IfSome, IsErrOf, MatchResult};
 ghost use Rattle.weed_base.specs.Told.{Rose, IsCauseOf};
 ghost use Rattle.weed_base.specs.Attachment.{Attaches, MayAttach, attached_to};
-ghost use Rattle.weed_base.specs.Sent.{bytes_sent};
+ghost use Rattle.weed_base.specs.Sent.{bytes_sent, SendsNothing};
 ghost use Rattle.weed_base.specs.Files.{Files, BothTold};
 ghost use Rattle.weed_base.specs.Images.{LeavesOnly, OnlyReads};
 ghost use Rattle.name_core.specs.declared.change.Record.{Record};
@@ -149,7 +149,7 @@ fn begin<H: Host>(alloc: Global, dir: &[u8], host: &mut H) -> Result<Session, Ex
     ensures settled { IfOk result (λ _. (files : Files) (records : List Record) → H.files host.old ≡ Some files → IsRecordLog files records → ImagesKeep (H.images host.new) records) }
     ensures own { (files : Files) → H.files host.old ≡ Some files → IsOwn (H.images host.old) → IfErr result (IfDamagedExit (λ _ _. ⊥)) }
     ensures cause { IsCauseOf (H.faults host.old) (H.faults host.new) (IsErrOf result Exit.DiskFault) }
-    ensures sent { (H.sent host.new ≡ H.sent host.old) × (H.send_faults host.new ≡ H.send_faults host.old) }
+    ensures sent { SendsNothing H.sent H.send_faults host.old host.new }
     ensures attached { MatchResult result
         (λ _. H.attachment host.new ≡ attached_to dir.now (H.tick host.old) (H.attachment host.old))
         (λ _. MayAttach dir.now (H.tick host.old) (H.attachment host.old) (H.attachment host.new)) }
@@ -172,7 +172,7 @@ fn attach<H: Host>(alloc: Global, dir: &[u8], host: &mut H) -> Result<(), Exit>
     ensures files { H.files host.new ≡ H.files host.old }
     ensures still { OnlyReads H.tick H.images H.image_since host.old host.new }
     ensures cause { IsCauseOf (H.faults host.old) (H.faults host.new) (IsErrOf result Exit.DiskFault) }
-    ensures sent { (H.sent host.new ≡ H.sent host.old) × (H.send_faults host.new ≡ H.send_faults host.old) }
+    ensures sent { SendsNothing H.sent H.send_faults host.old host.new }
     ensures attached { Attaches dir.now (H.tick host.old) (H.attachment host.old) (H.attachment host.new) result }
 {
     let place = Word::new(alloc, dir)?;

@@ -7,6 +7,7 @@ pub mod Sent
 pub mod Path
 pub mod PathOrder
 pub mod Attachment
+pub mod Beside
 pub mod Calls
 pub mod History
 pub mod MemForms

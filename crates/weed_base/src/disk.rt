@@ -5,8 +5,9 @@ ghost use Rattle.weed_base.specs.Told.{HasCause, HasWriteCause, IsCauseOf};
 ghost use Rattle.weed_base.specs.Files.{Files, IsWithin, IsThere, written, cut_to, made, removed, renamed, content, MayWrite, BothTold, Changes, ReadsAt, MayBeNamed};
 ghost use Rattle.weed_base.specs.Images.{NoMore, Only, Follows, Tears, Takes, where_there, Elapses, StandsStill};
 ghost use Rattle.weed_base.specs.Attachment.{Attachment, Attaches};
-ghost use Rattle.weed_base.specs.Sent.{Piece, Sends};
+ghost use Rattle.weed_base.specs.Sent.{Piece, Sends, SendsNothing};
 ghost use Rattle.weed_base.specs.declared.disk.NamesFault.TheVariants.{Memory};
+ghost use Rattle.weed_base.specs.Beside.{StaysBeside};
 
 use crate::bytes::Word;
 use crate::file_name::FileName;
@@ -91,7 +92,7 @@ pub trait Disk {
         ensures images { NoMore (images self.old) (images self.new) }
         ensures time { Elapses (tick self.old) (tick self.new) (image_since self.old) (image_since self.new) (images self.new) }
         ensures cause { HasCause (faults self.old) (faults self.new) result }
-        ensures sent { (sent self.new ≡ sent self.old) × (send_faults self.new ≡ send_faults self.old) }
+        ensures sent { SendsNothing sent send_faults self.old self.new }
         ensures spent { tick self.old ≡ 2 ^ 64 - 1 → IsErr result };
 
     /// All names, in byte order.
@@ -101,8 +102,7 @@ pub trait Disk {
         ensures images { NoMore (images self.old) (images self.new) }
         ensures time { Elapses (tick self.old) (tick self.new) (image_since self.old) (image_since self.new) (images self.new) }
         ensures cause { IsCauseOf (faults self.old) (faults self.new) (IsErrOf result NamesFault.Failed) }
-        ensures sent { (sent self.new ≡ sent self.old) × (send_faults self.new ≡ send_faults self.old) }
-        ensures attachment { attachment self.new ≡ attachment self.old }
+        ensures beside { StaysBeside sent send_faults attachment self.old self.new }
         ensures spent { tick self.old ≡ 2 ^ 64 - 1 → IsErr result };
 
     /// The length of a file in bytes; `None` exactly where it isn't there.
@@ -112,8 +112,7 @@ pub trait Disk {
         ensures images { NoMore (images self.old) (images self.new) }
         ensures time { Elapses (tick self.old) (tick self.new) (image_since self.old) (image_since self.new) (images self.new) }
         ensures cause { HasCause (faults self.old) (faults self.new) result }
-        ensures sent { (sent self.new ≡ sent self.old) × (send_faults self.new ≡ send_faults self.old) }
-        ensures attachment { attachment self.new ≡ attachment self.old }
+        ensures beside { StaysBeside sent send_faults attachment self.old self.new }
         ensures spent { tick self.old ≡ 2 ^ 64 - 1 → IsErr result };
 
     /// Puts the file's bytes from `at` on into the front of `room`, as many as there are and fit, and
@@ -125,8 +124,7 @@ pub trait Disk {
         ensures images { NoMore (images self.old) (images self.new) }
         ensures time { Elapses (tick self.old) (tick self.new) (image_since self.old) (image_since self.new) (images self.new) }
         ensures cause { HasCause (faults self.old) (faults self.new) result }
-        ensures sent { (sent self.new ≡ sent self.old) × (send_faults self.new ≡ send_faults self.old) }
-        ensures attachment { attachment self.new ≡ attachment self.old }
+        ensures beside { StaysBeside sent send_faults attachment self.old self.new }
         ensures spent { tick self.old ≡ 2 ^ 64 - 1 → IsErr result };
 
     /// Writes the piece over what is there, and past the end. A write whose end would pass 2^63 - 1 fails.
@@ -140,8 +138,7 @@ pub trait Disk {
         ensures images { Follows (Tears name.now at (length piece.now)) (images self.old) (images self.new) }
         ensures time { Elapses (tick self.old) (tick self.new) (image_since self.old) (image_since self.new) (images self.new) }
         ensures cause { HasCause (faults self.old) (faults self.new) result }
-        ensures sent { (sent self.new ≡ sent self.old) × (send_faults self.new ≡ send_faults self.old) }
-        ensures attachment { attachment self.new ≡ attachment self.old }
+        ensures beside { StaysBeside sent send_faults attachment self.old self.new }
         ensures spent { tick self.old ≡ 2 ^ 64 - 1 → IsErr result };
 
     /// Cuts a file to a length. After a failure it reads as before or as after.
@@ -151,8 +148,7 @@ pub trait Disk {
         ensures images { Follows (Takes (where_there name.now (cut_to name.now to))) (images self.old) (images self.new) }
         ensures time { Elapses (tick self.old) (tick self.new) (image_since self.old) (image_since self.new) (images self.new) }
         ensures cause { HasCause (faults self.old) (faults self.new) result }
-        ensures sent { (sent self.new ≡ sent self.old) × (send_faults self.new ≡ send_faults self.old) }
-        ensures attachment { attachment self.new ≡ attachment self.old }
+        ensures beside { StaysBeside sent send_faults attachment self.old self.new }
         ensures spent { tick self.old ≡ 2 ^ 64 - 1 → IsErr result };
 
     /// Makes the file, there and empty. After a failure it reads as before or as after.
@@ -162,8 +158,7 @@ pub trait Disk {
         ensures images { Follows (Takes (made name.now)) (images self.old) (images self.new) }
         ensures time { Elapses (tick self.old) (tick self.new) (image_since self.old) (image_since self.new) (images self.new) }
         ensures cause { HasCause (faults self.old) (faults self.new) result }
-        ensures sent { (sent self.new ≡ sent self.old) × (send_faults self.new ≡ send_faults self.old) }
-        ensures attachment { attachment self.new ≡ attachment self.old }
+        ensures beside { StaysBeside sent send_faults attachment self.old self.new }
         ensures spent { tick self.old ≡ 2 ^ 64 - 1 → IsErr result };
 
     /// Removes the file, where it is there. After a failure it reads as before or as after.
@@ -172,8 +167,7 @@ pub trait Disk {
         ensures images { Follows (Takes (removed name.now)) (images self.old) (images self.new) }
         ensures time { Elapses (tick self.old) (tick self.new) (image_since self.old) (image_since self.new) (images self.new) }
         ensures cause { HasCause (faults self.old) (faults self.new) result }
-        ensures sent { (sent self.new ≡ sent self.old) × (send_faults self.new ≡ send_faults self.old) }
-        ensures attachment { attachment self.new ≡ attachment self.old }
+        ensures beside { StaysBeside sent send_faults attachment self.old self.new }
         ensures spent { tick self.old ≡ 2 ^ 64 - 1 → IsErr result };
 
     /// Renames a file, which takes the place of what had the new name. After a failure both names read as
@@ -185,8 +179,7 @@ pub trait Disk {
         ensures images { Follows (Takes (where_there from.now (renamed from.now to.now))) (images self.old) (images self.new) }
         ensures time { Elapses (tick self.old) (tick self.new) (image_since self.old) (image_since self.new) (images self.new) }
         ensures cause { HasCause (faults self.old) (faults self.new) result }
-        ensures sent { (sent self.new ≡ sent self.old) × (send_faults self.new ≡ send_faults self.old) }
-        ensures attachment { attachment self.new ≡ attachment self.old }
+        ensures beside { StaysBeside sent send_faults attachment self.old self.new }
         ensures spent { tick self.old ≡ 2 ^ 64 - 1 → IsErr result };
 
     /// Settles all files and names.
@@ -196,8 +189,7 @@ pub trait Disk {
         ensures settled { OnOk result (Only (files self.old) (images self.new)) }
         ensures time { Elapses (tick self.old) (tick self.new) (image_since self.old) (image_since self.new) (images self.new) }
         ensures cause { HasCause (faults self.old) (faults self.new) result }
-        ensures sent { (sent self.new ≡ sent self.old) × (send_faults self.new ≡ send_faults self.old) }
-        ensures attachment { attachment self.new ≡ attachment self.old }
+        ensures beside { StaysBeside sent send_faults attachment self.old self.new }
         ensures spent { tick self.old ≡ 2 ^ 64 - 1 → IsErr result };
 
     /// This moment is one of those since an earlier one.
