@@ -4,6 +4,7 @@ use Rattle.std.specs.Cmp.{eq_by_cmp_equiv}
 use Rattle.std.proofs.lemmas.Bool.{cases_Bool}
 use Rattle.weed_base.specs.PathOrder.{same_path, path_cmp_total, same_path-exact}
 
+-- A path is one with itself.
 pub same_path-refl : (p : List (List ℕ)) → same_path p p ≡ true
 same_path-refl p = (eq_by_cmp_equiv path_cmp_total).refl p
 
