@@ -22,7 +22,9 @@ use crate::world::World;
 use std::env;
 use std::io::{self, Write};
 use std::process::ExitCode;
-use weed_base::{DirHost, StandardError, StandardInput, SystemClock, Word};
+use weed_base::{
+    DirDisk, SinkHost, StandardError, StandardInput, StandardOutput, SystemClock, Word,
+};
 
 /// What `weed --help` tells.
 const USAGE: &[u8] = b"\
@@ -49,7 +51,7 @@ fn main(rt: HostRuntime) -> ExitCode {
         words => {
             let world = World {
                 source: StandardInput::new(rt.stdin()),
-                host: DirHost::new(rt, rt.stdout()),
+                host: SinkHost::new(DirDisk::new(rt), StandardOutput::new(rt.stdout())),
                 clock: SystemClock::new(rt),
             };
             let (exit, _) = weed(rt.alloc(), words, world);

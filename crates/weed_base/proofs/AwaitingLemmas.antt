@@ -8,7 +8,8 @@ use Rattle.std.proofs.lemmas.List.Quantifiers.{any-set, position-Some}
 use Rattle.std.proofs.lemmas.Slice.Eq.{bytes_eq-Decides}
 use Rattle.std.specs.List.{Any, filter, position}
 use Rattle.std.specs.Str.{bytes_eq}
-use Rattle.weed_base.specs.Awaiting.{FileCall, Covers, StillAwaits, IsNamedAt, FallsByAnswer, EachPair, AwaitsNothing}
+use Rattle.weed_base.specs.System.{FileCall}
+use Rattle.weed_base.specs.Awaiting.{Covers, StillAwaits, IsNamedAt, FallsByAnswer, EachPair, AwaitsNothing}
 use Rattle.weed_base.specs.declared.real.kept.Awaits.{Awaits}
 use Rattle.weed_base.specs.declared.real.kept.Awaits.TheVariants.{Nothing, Data, Everything}
 use Rattle.weed_base.specs.declared.real.kept.KeptFile.{KeptFile}
@@ -46,7 +47,7 @@ same_or_other i j =
       | inr above ↦ elim (cases_lt j i) [ inl below ↦ inr (λ same. omega (arith, below, same)) | inr least ↦ inl (omega (arith, above, least)) ]
     ]
 
-below_other : (k i : ℕ) → k < i + 1 → k ≢ i → k < i
+pub below_other : (k i : ℕ) → k < i + 1 → k ≢ i → k < i
 below_other k i below other = elim (cases_lt k i) [ inl less ↦ less | inr more ↦ absurd (other (omega (arith, below, more))) ]
 
 -- the file at a place is marked for more

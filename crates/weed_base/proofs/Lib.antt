@@ -9,3 +9,4 @@ pub mod ReplayLemmas
 pub mod DiskCallLemmas
 pub mod StreamLemmas
 pub mod AwaitingLemmas
+pub mod FolderLemmas

@@ -2,6 +2,7 @@
 use Rattle.std.specs.Prelude.{◌≡◌, ◌≢◌, ◌⊎◌, ◌<◌, ℕ, cond, not, List, length, filter, slice_index_or, ⊤}
 use Rattle.std.specs.Str.{bytes_eq}
 use Rattle.std.specs.List.{Any}
+use Rattle.weed_base.specs.System.{FileCall, SettledData, SettledAll}
 use Rattle.weed_base.specs.declared.real.kept.Awaits.{Awaits}
 use Rattle.weed_base.specs.declared.real.kept.Awaits.TheVariants.{Nothing, Data, Everything}
 use Rattle.weed_base.specs.declared.real.kept.KeptFile.{KeptFile}
@@ -28,28 +29,21 @@ StillAwaits old new = (name : List ℕ) (mark : Awaits) → mark ≢ Nothing →
 abbrev pub IsNamedAt : {F : Type 0} → List ℕ → ℕ → List (KeptFile F) → Type 0
 IsNamedAt {F} name place files = (place < length files) × ((d : KeptFile F) → (slice_index_or files place d).name ≡ name)
 
--- A call of a file: it wrote bytes at a place, cut the file to a length, or settled its data or all of it.
-pub data FileCall : Type 0 where
-  Wrote : ℕ → List ℕ → FileCall
-  CutTo : ℕ → FileCall
-  SettledData : FileCall
-  SettledAll : FileCall
-
--- An open file of that name answered that call with Ok.
-abbrev pub AnsweredBy : {F : Type 0} → (FileCall → F → Type 0) → FileCall → List ℕ → List (KeptFile F) → Type 0
-AnsweredBy answered call name files = Any (λ kept. (kept.name ≡ name) × answered call kept.file) files
+-- The file at that place is this one.
+abbrev pub IsFileAt : {F : Type 0} → ℕ → List (KeptFile F) → F → Type 0
+IsFileAt {F} place files file = (d : KeptFile F) → (slice_index_or files place d).file ≡ file
 
 -- What a file awaited was asked of a sync of that kind, which answered Ok.
-abbrev pub IsSettled : {F : Type 0} → (FileCall → F → Type 0) → Awaits → F → Type 0
-IsSettled answered Nothing file = ⊤
-IsSettled answered Data file = answered SettledData file
-IsSettled answered Everything file = answered SettledAll file
+abbrev pub IsSettledBy : {F : Type 0} → (FileCall → F → Type 0) → Awaits → F → Type 0
+IsSettledBy answered Nothing file = ⊤
+IsSettledBy answered Data file = answered SettledData file
+IsSettledBy answered Everything file = answered SettledAll file
 
 -- The file is the same, and its mark stays, or falls to nothing by an answer.
 pub record FallsByAnswer {F : Type 0} (answered : FileCall → F → Type 0) (before after : KeptFile F) : Type 0 where
   pub name : after.name ≡ before.name
   pub file : after.file ≡ before.file
-  pub mark : (after.awaits ≡ before.awaits) ⊎ ((after.awaits ≡ Nothing) × IsSettled answered before.awaits before.file)
+  pub mark : (after.awaits ≡ before.awaits) ⊎ ((after.awaits ≡ Nothing) × IsSettledBy answered before.awaits before.file)
 
 -- The relation holds of each two in the same place of two lists of one length.
 abbrev pub EachPair : {X : Type 0} → (X → X → Type 0) → List X → List X → Type 0

@@ -15,4 +15,6 @@ pub mod PathFaults
 pub mod NamedBytes
 pub mod RealForms
 pub mod DiskLaws
+pub mod System
 pub mod Awaiting
+pub mod Folder

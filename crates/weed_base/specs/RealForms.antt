@@ -1,14 +1,26 @@
--- The outside itself, of which contracts see counts, and where it was turned to.
-use Rattle.std.specs.Prelude.{ℕ}
-use Rattle.weed_base.specs.Attachment.{Attachment}
+-- The real directory as a disk: what a call of it tells, and what it does to the directory that is attached.
+use Rattle.std.specs.Prelude.{◌≡◌, true, None, Result, IsErr, IsSomeAnd}
+use Rattle.weed_base.specs.Files.{BothTold}
+use Rattle.weed_base.specs.Images.{Elapses}
+use Rattle.weed_base.specs.declared.real.folder.Folder.{Folder}
+use Rattle.weed_base.specs.declared.real.dir_disk.DirDisk.{DirDisk}
 
--- How many calls of a disk were made, how many failed, and where it was turned to.
-pub record DiskCounts : Type 0 where
-  pub made : ℕ
-  pub faults : ℕ
-  pub attachment : Attachment
+-- A sync or an attach failed: no directory is attached.
+abbrev pub IsBroken : {R F : Type 0} → DirDisk R F → Type 0
+IsBroken disk = (disk.folder ≡ None) × (disk.broken ≡ true)
 
--- The counts of a host's disk, and how many sends failed.
-pub record HostCounts : Type 0 where
-  pub disk : DiskCounts
-  pub send_faults : ℕ
+-- One call was made of a disk that tells no image.
+abbrev pub Ticks : {R F : Type 0} → DirDisk R F → DirDisk R F → Type 0
+Ticks old new = Elapses old.counts.made new.counts.made (λ _ _. ⊥) (λ _ _. ⊥) (λ _. ⊥)
+
+-- After a sync or an attach that failed a call fails, and so does each later one.
+abbrev pub StaysBroken : {R F T E : Type 0} → DirDisk R F → DirDisk R F → Result T E → Type 0
+StaysBroken old new result = IsBroken old → IsErr result × IsBroken new
+
+-- A directory is attached before and after, and they are so.
+abbrev pub BothAttached : {R F : Type 0} → (Folder R F → Folder R F → Type 0) → DirDisk R F → DirDisk R F → Type 0
+BothAttached P old new = IsSomeAnd old.folder (λ before. IsSomeAnd new.folder (P before))
+
+-- The same, or none is attached before and after.
+abbrev pub Leaves : {R F : Type 0} → (Folder R F → Folder R F → Type 0) → DirDisk R F → DirDisk R F → Type 0
+Leaves P old new = BothTold P old.folder new.folder

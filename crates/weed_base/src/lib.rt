@@ -29,8 +29,8 @@ pub use mem::{MemClock, MemDisk, MemHost, MemSink, MemSource, NamedBytes, Pick, 
 pub use path::Path;
 pub use path_fault::PathFault;
 pub use real::{
-    DirDisk, DirHost, ReaderSource, StandardError, StandardInput, StandardOutput, SteadyRead,
-    SteadyWrite, SystemClock, WriterSink,
+    DirDisk, ReaderSource, SinkHost, StandardError, StandardInput, StandardOutput, SteadyRead,
+    SteadyWrite, System, SystemClock, SystemFile, WholeDisk, WriterSink,
 };
 pub use sink::Sink;
 pub use source::{Failed, Source};

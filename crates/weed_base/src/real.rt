@@ -1,17 +1,19 @@
 //! The outside itself: std's streams, clock and files. The clock and the files tell no content.
 mod clock;
 mod dir_disk;
-mod dir_host;
 mod folder;
 mod kept;
+mod sink_host;
 mod streams;
+mod system;
 
 pub use clock::SystemClock;
 pub use dir_disk::DirDisk;
-pub use dir_host::DirHost;
+pub use sink_host::{SinkHost, WholeDisk};
 pub use streams::{
     ReaderSource, StandardError, StandardInput, StandardOutput, SteadyRead, SteadyWrite, WriterSink,
 };
+pub use system::{System, SystemFile};
 
 #[cfg(test)]
 mod tests;

@@ -1,8 +1,14 @@
-ghost use Rattle.std.specs.Prelude.{◌≡◌, ◌≤◌, ◌-◌, ◌^◌, None, false, IsErr, IfOk, length};
+ghost use Rattle.std.specs.Prelude.{◌≡◌, ◌≤◌, ◌<◌, ◌+◌, ◌-◌, ◌^◌, ◌⊎◌, ◌↔◌, List, length, None, true, false, IsErr, IsErrOf, IfOk, IfSome, OnOk, OnErr, IsSomeAnd, MatchOption, refl};
 ghost use Rattle.std.proofs.lemmas.Bool.{false≢true};
 ghost use Rattle.std.proofs.lemmas.Option.{none-some};
-ghost use Rattle.weed_base.specs.Attachment.{unattached};
-ghost use Rattle.weed_base.specs.Told.{raised, HasCause};
+ghost use Rattle.weed_base.specs.Attachment.{Attaches, unattached};
+ghost use Rattle.weed_base.specs.Told.{raised, HasCause, IsCauseOf};
+ghost use Rattle.weed_base.specs.Files.{ReadsAt};
+ghost use Rattle.weed_base.specs.System.{Wrote, CutTo, Missed};
+ghost use Rattle.weed_base.specs.Awaiting.{Awaiting};
+ghost use Rattle.weed_base.specs.Folder.{OfFile, OfFileOr, IsListing, IsOpened, IsSameFolder, KeepsAwaiting, HasMade, HasRemoved, HasRenamed, MayHaveChanged, Settles, IsSettledWhole, path_of};
+ghost use Rattle.weed_base.specs.RealForms.{IsBroken, Ticks, StaysBroken, BothAttached, Leaves};
+ghost use Rattle.weed_base.specs.declared.real.kept.Awaits.TheVariants.{Data, Everything};
 
 use crate::attachment::Attachment;
 use crate::bytes::Word;
@@ -11,109 +17,27 @@ use crate::faults::Faults;
 use crate::file_name::FileName;
 use crate::items::Items;
 use crate::real::folder::Folder;
+use crate::real::sink_host::WholeDisk;
+use crate::real::system::{System, SystemFile};
 use crate::source::Failed;
 use std::alloc::{AllocGlobal, Global};
 use std::fs::File;
 use std::io;
-use std::marker::Model;
-use std::rt::Files;
 
+/// How many calls were made, and how many of them failed.
 #[derive(Drop)]
-enum State<R> {
-    Detached,
-    Attached(Folder<R>),
-    /// A sync or an attach failed, and the system may have dropped what was written.
-    Broken,
-}
-
-impl<R: Files<File = File> + AllocGlobal + Clone + Drop> State<R> {
-    fn attached(&mut self) -> io::Result<&mut Folder<R>> {
-        match self {
-            State::Attached(folder) => Ok(folder),
-            State::Detached | State::Broken => Err(io::ErrorKind::NotConnected.into()),
-        }
-    }
-
-    /// Settles the directory that is attached, and opens another.
-    fn turn_to(&mut self, rt: &R, place: &[u8]) -> io::Result<State<R>> {
-        match self {
-            State::Detached => {}
-            State::Attached(folder) => folder.sync()?,
-            State::Broken => return Err(io::ErrorKind::NotConnected.into()),
-        }
-        Ok(State::Attached(Folder::open(rt.clone()?, place)?))
-    }
-
-    fn attach(&mut self, rt: &R, place: &[u8]) -> io::Result<()> {
-        match self.turn_to(rt, place) {
-            Ok(state) => {
-                *self = state;
-                Ok(())
-            }
-            Err(error) => {
-                *self = State::Broken;
-                Err(error)
-            }
-        }
-    }
-
-    fn sync(&mut self) -> io::Result<()> {
-        let answer = self.attached()?.sync();
-        if answer.is_err() {
-            *self = State::Broken;
-        }
-        answer
-    }
-}
-
-/// A disk over a directory of the system. Contracts see how many calls were made, how many failed, and where
-/// it was turned to.
-///
-/// Each call fails before it is attached, and after a sync or an attach that failed.
-#[derive(Drop)]
-pub struct DirDisk<R> {
-    rt: R,
-    state: State<R>,
+struct Counts {
     made: u64,
     faults: Faults,
-    attachment: Attachment,
 }
 
-impl<R> Model for DirDisk<R> {
-    ghost use Rattle.weed_base.specs.RealForms.{DiskCounts};
-
-    ghost Value = { DiskCounts };
-
-    ghost view = { λ disk. record { made = disk.made; faults = disk.faults; attachment = disk.attachment } };
-}
-
-impl<R: Files<File = File> + AllocGlobal + Clone + Drop> DirDisk<R> {
-    pub fn new(rt: R) -> DirDisk<R>
-        ensures { result ≡ record { made = 0; faults = 0; attachment = unattached } }
-    {
-        DirDisk {
-            rt,
-            state: State::Detached,
-            made: 0,
-            faults: Faults::new(),
-            attachment: Attachment::new(),
-        }
-    }
-
-    /// How many calls failed.
-    pub fn faults(&self) -> u64
-        ensures { result ≡ self.now.faults }
-    {
-        self.faults.count()
-    }
-
+impl Counts {
     /// Begins a call, and counts the fault where the numbers are used up.
     fn begin(&mut self) -> Result<(), Failed>
         ensures made { self.new.made ≡ raised self.old.made }
-        ensures attachment { self.new.attachment ≡ self.old.attachment }
         ensures later { self.old.made ≤ self.new.made }
         ensures cause { HasCause self.old.faults self.new.faults result }
-        ensures spent { self.old.made ≡ 2 ^ 64 - 1 → IsErr result }
+        ensures spent { IsErr result ↔ (self.old.made ≡ 2 ^ 64 - 1) }
     {
         if self.made == u64::MAX {
             return Err(self.faults.raise());
@@ -121,30 +45,80 @@ impl<R: Files<File = File> + AllocGlobal + Clone + Drop> DirDisk<R> {
         self.made += 1;
         Ok(())
     }
+}
 
-    /// Makes a call of the attached directory, and counts its fault.
-    fn call<T, F: FnOnce(&mut Folder<R>) -> io::Result<T>>(&mut self, call: F) -> Result<T, Failed>
-        requires { F.IsAlwaysCallable call }
-        ensures made { self.new.made ≡ raised self.old.made }
-        ensures attachment { self.new.attachment ≡ self.old.attachment }
-        ensures later { self.old.made ≤ self.new.made }
-        ensures cause { HasCause self.old.faults self.new.faults result }
-        ensures spent { self.old.made ≡ 2 ^ 64 - 1 → IsErr result }
+/// A disk over a directory of the system. Contracts see how many calls were made, how many failed, where it was
+/// turned to, and which calls of the system answered.
+///
+/// Each call fails before it is attached, and after a sync or an attach that failed: the system may have dropped
+/// what was written.
+#[derive(Drop)]
+pub struct DirDisk<R, F = File> {
+    system: R,
+    folder: Option<Folder<R, F>>,
+    broken: bool,
+    counts: Counts,
+    attachment: Attachment,
+}
+
+impl<F: SystemFile + Drop, R: System<File = F> + AllocGlobal + Clone + Drop> DirDisk<R, F> {
+    pub fn new(system: R) -> DirDisk<R, F>
+        ensures { result ≡ record { system = system; folder = None; broken = false; counts = record { made = 0; faults = 0 }; attachment = unattached } }
     {
-        self.begin()?;
-        let answer = self.state.attached().and_then(call);
-        self.faults.note(answer)
+        DirDisk {
+            system,
+            folder: None,
+            broken: false,
+            counts: Counts {
+                made: 0,
+                faults: Faults::new(),
+            },
+            attachment: Attachment::new(),
+        }
+    }
+
+    /// How many calls failed.
+    pub fn faults(&self) -> u64
+        ensures { result ≡ self.now.counts.faults }
+    {
+        self.counts.faults.count()
+    }
+
+    /// Lets the directory go, and takes no other.
+    fn break_off(&mut self)
+        ensures broken { IsBroken self.new }
+        ensures rest { (self.new.counts ≡ self.old.counts) × (self.new.attachment ≡ self.old.attachment) }
+    {
+        self.folder = None;
+        self.broken = true;
+    }
+
+    /// Settles the directory that is attached, and opens another.
+    fn open(&mut self, place: &[u8]) -> io::Result<Folder<R, F>>
+        ensures broken { IsBroken self.old → IsErr result }
+        ensures opened { IfOk result (IsOpened R.answered F.answered place.now) }
+        ensures left { OnOk result (Leaves (λ before after. Settles F.answered before after × IsSettledWhole after) self.old self.new) }
+        ensures rest { (self.new.counts ≡ self.old.counts) × (self.new.attachment ≡ self.old.attachment) }
+    {
+        if self.broken {
+            return Err(io::ErrorKind::NotConnected.into());
+        }
+        if let Some(folder) = &mut self.folder {
+            folder.sync()?;
+        }
+        Folder::open(self.system.clone()?, place)
     }
 }
 
-impl<R: Files<File = File> + AllocGlobal + Clone + Drop> Disk for DirDisk<R> {
+impl<F: SystemFile + Drop, R: System<File = F> + AllocGlobal + Clone + Drop> Disk
+    for DirDisk<R, F> {
     const MARKS_ONLY: bool = false;
 
     ghost MARKS_ONLY = { false };
 
     ghost files = { λ _. None };
 
-    ghost faults = { λ disk. disk.faults };
+    ghost faults = { λ disk. disk.counts.faults };
 
     ghost sent = { λ _. None };
 
@@ -152,7 +126,7 @@ impl<R: Files<File = File> + AllocGlobal + Clone + Drop> Disk for DirDisk<R> {
 
     ghost attachment = { λ disk. disk.attachment };
 
-    ghost tick = { λ disk. disk.made };
+    ghost tick = { λ disk. disk.counts.made };
 
     ghost images = { λ _ _. ⊥ };
 
@@ -167,73 +141,208 @@ impl<R: Files<File = File> + AllocGlobal + Clone + Drop> Disk for DirDisk<R> {
     ghost marks_only = { λ disk read name told there marks. absurd (false≢true marks) };
 
     fn tick(&self) -> u64 {
-        self.made
+        self.counts.made
     }
 
-    fn attach(&mut self, place: Word) -> Result<(), Failed> {
-        let tick = self.made;
-        self.begin()?;
-        let answer = self.state.attach(&self.rt, place.as_slice());
-        self.faults.note(answer)?;
-        self.attachment.turn_to(place, tick);
-        Ok(())
+    fn attach(&mut self, place: Word) -> Result<(), Failed>
+        ensures time { Ticks self.old self.new }
+        ensures spent { self.old.counts.made ≡ 2 ^ 64 - 1 → IsErr result }
+        ensures breaks { StaysBroken self.old self.new result }
+        ensures cause { HasCause self.old.counts.faults self.new.counts.faults result }
+        ensures attached { Attaches place self.old.counts.made self.old.attachment self.new.attachment result }
+        ensures opened { OnOk result (IsSomeAnd self.new.folder (IsOpened R.answered F.answered place)) }
+        ensures broken { OnErr result ((self.old.counts.made ≡ 2 ^ 64 - 1) ⊎ IsBroken self.new) }
+    {
+        let tick = self.counts.made;
+        self.counts.begin()?;
+        match self.open(place.as_slice()) {
+            Ok(folder) => {
+                self.folder = Some(folder);
+                self.attachment.turn_to(place, tick);
+                Ok(())
+            }
+            Err(_) => {
+                self.break_off();
+                Err(self.counts.faults.raise())
+            }
+        }
     }
 
-    fn names(&mut self, alloc: Global) -> Result<Items<FileName>, NamesFault> {
-        if self.begin().is_err() {
+    fn names(&mut self, alloc: Global) -> Result<Items<FileName>, NamesFault>
+        ensures time { Ticks self.old self.new }
+        ensures spent { self.old.counts.made ≡ 2 ^ 64 - 1 → IsErr result }
+        ensures breaks { StaysBroken self.old self.new result }
+        ensures cause { IsCauseOf self.old.counts.faults self.new.counts.faults (IsErrOf result NamesFault.Failed) }
+        ensures attachment { self.new.attachment ≡ self.old.attachment }
+        ensures keeps { self.new.folder ≡ self.old.folder }
+        ensures names { IfOk result (λ names. IsSomeAnd self.old.folder (IsListing R.answered names)) }
+    {
+        if self.counts.begin().is_err() {
             return Err(NamesFault::Failed);
         }
-        let answer = self.state.attached().and_then(|folder| folder.names(alloc));
-        match answer {
+        let Some(folder) = &self.folder else {
+            self.counts.faults.raise();
+            return Err(NamesFault::Failed);
+        };
+        match folder.names(alloc) {
             Ok(names) => Ok(Items::of(names)),
             Err(error) if error.kind() == io::ErrorKind::OutOfMemory => Err(NamesFault::Memory),
             Err(_) => {
-                self.faults.raise();
+                self.counts.faults.raise();
                 Err(NamesFault::Failed)
             }
         }
     }
 
-    fn size(&mut self, name: &FileName) -> Result<Option<u64>, Failed> {
-        self.call(|folder| folder.size(name))
-    }
-
-    fn read_at(&mut self, name: &FileName, at: u64, room: &mut [u8]) -> Result<usize, Failed> {
-        self.begin()?;
-        let answer = match self.state.attached() {
-            Ok(folder) => folder.read_at(name, at, room),
-            Err(error) => Err(error),
+    fn size(&mut self, name: &FileName) -> Result<Option<u64>, Failed>
+        ensures time { Ticks self.old self.new }
+        ensures spent { self.old.counts.made ≡ 2 ^ 64 - 1 → IsErr result }
+        ensures breaks { StaysBroken self.old self.new result }
+        ensures cause { HasCause self.old.counts.faults self.new.counts.faults result }
+        ensures attachment { self.new.attachment ≡ self.old.attachment }
+        ensures keeps { Leaves KeepsAwaiting self.old self.new }
+        ensures size { IfOk result (λ size. IsSomeAnd self.old.folder (λ folder. MatchOption size (R.answered (Missed (path_of folder name.now)) folder.system)
+            (λ size. OfFile R.answered (λ file. IfSome (F.bytes file) (λ told. size ≡ length told)) name.now folder))) }
+    {
+        self.counts.begin()?;
+        let Some(folder) = &mut self.folder else {
+            return Err(self.counts.faults.raise());
         };
-        self.faults.note(answer)
+        let answer = folder.size(name);
+        self.counts.faults.note(answer)
     }
 
-    fn write_at(&mut self, name: &FileName, at: u64, piece: &[u8]) -> Result<(), Failed> {
-        if !ends_in_file(at, piece.len()) {
-            self.begin()?;
-            return Err(self.faults.raise());
+    fn read_at(&mut self, name: &FileName, at: u64, room: &mut [u8]) -> Result<usize, Failed>
+        ensures time { Ticks self.old self.new }
+        ensures spent { self.old.counts.made ≡ 2 ^ 64 - 1 → IsErr result }
+        ensures breaks { StaysBroken self.old self.new result }
+        ensures cause { HasCause self.old.counts.faults self.new.counts.faults result }
+        ensures attachment { self.new.attachment ≡ self.old.attachment }
+        ensures keeps { Leaves KeepsAwaiting self.old self.new }
+        ensures bound { IfOk result (λ count. count ≤ length room.new) }
+        ensures read { IfOk result (λ count. IsSomeAnd self.old.folder
+            (OfFileOr R.answered (count ≡ 0) (λ file. IfSome (F.bytes file) (λ told. ReadsAt told at count room.new)) name.now)) }
+    {
+        self.counts.begin()?;
+        let Some(folder) = &mut self.folder else {
+            return Err(self.counts.faults.raise());
+        };
+        let answer = folder.read_at(name, at, room);
+        self.counts.faults.note(answer)
+    }
+
+    fn write_at(&mut self, name: &FileName, at: u64, piece: &[u8]) -> Result<(), Failed>
+        ensures time { Ticks self.old self.new }
+        ensures spent { self.old.counts.made ≡ 2 ^ 64 - 1 → IsErr result }
+        ensures breaks { StaysBroken self.old self.new result }
+        ensures cause { HasCause self.old.counts.faults self.new.counts.faults result }
+        ensures attachment { self.new.attachment ≡ self.old.attachment }
+        ensures keeps { Leaves KeepsAwaiting self.old self.new }
+        ensures bound { OnOk result (at + length piece.now < 2 ^ 63) }
+        ensures written { OnOk result (BothAttached (λ before after. OfFile R.answered (F.answered (Wrote at piece.now)) name.now before
+            × Awaiting name.now Data after.kept.files.items) self.old self.new) }
+    {
+        self.counts.begin()?;
+        let Some(folder) = &mut self.folder else {
+            return Err(self.counts.faults.raise());
+        };
+        let answer = folder.write_at(name, at, piece);
+        self.counts.faults.note(answer)
+    }
+
+    fn cut(&mut self, name: &FileName, to: u64) -> Result<(), Failed>
+        ensures time { Ticks self.old self.new }
+        ensures spent { self.old.counts.made ≡ 2 ^ 64 - 1 → IsErr result }
+        ensures breaks { StaysBroken self.old self.new result }
+        ensures cause { HasCause self.old.counts.faults self.new.counts.faults result }
+        ensures attachment { self.new.attachment ≡ self.old.attachment }
+        ensures keeps { Leaves KeepsAwaiting self.old self.new }
+        ensures cut { OnOk result (BothAttached (λ before after. OfFile R.answered (F.answered (CutTo to)) name.now before
+            × Awaiting name.now Everything after.kept.files.items) self.old self.new) }
+    {
+        self.counts.begin()?;
+        let Some(folder) = &mut self.folder else {
+            return Err(self.counts.faults.raise());
+        };
+        let answer = folder.cut(name, to);
+        self.counts.faults.note(answer)
+    }
+
+    fn make(&mut self, name: &FileName) -> Result<(), Failed>
+        ensures time { Ticks self.old self.new }
+        ensures spent { self.old.counts.made ≡ 2 ^ 64 - 1 → IsErr result }
+        ensures breaks { StaysBroken self.old self.new result }
+        ensures cause { HasCause self.old.counts.faults self.new.counts.faults result }
+        ensures attachment { self.new.attachment ≡ self.old.attachment }
+        ensures keeps { Leaves KeepsAwaiting self.old self.new }
+        ensures made { OnOk result (BothAttached (HasMade R.answered F.answered name.now) self.old self.new) }
+    {
+        self.counts.begin()?;
+        let Some(folder) = &mut self.folder else {
+            return Err(self.counts.faults.raise());
+        };
+        let answer = folder.make(name);
+        self.counts.faults.note(answer)
+    }
+
+    fn remove(&mut self, name: &FileName) -> Result<(), Failed>
+        ensures time { Ticks self.old self.new }
+        ensures spent { self.old.counts.made ≡ 2 ^ 64 - 1 → IsErr result }
+        ensures breaks { StaysBroken self.old self.new result }
+        ensures cause { HasCause self.old.counts.faults self.new.counts.faults result }
+        ensures attachment { self.new.attachment ≡ self.old.attachment }
+        ensures keeps { Leaves IsSameFolder self.old self.new }
+        ensures removed { OnOk result (BothAttached (HasRemoved R.answered name.now) self.old self.new) }
+        ensures failed { OnErr result ((self.new.folder ≡ self.old.folder) ⊎ BothAttached MayHaveChanged self.old self.new) }
+    {
+        self.counts.begin()?;
+        let Some(folder) = &mut self.folder else {
+            return Err(self.counts.faults.raise());
+        };
+        let answer = folder.remove(name);
+        self.counts.faults.note(answer)
+    }
+
+    fn rename(&mut self, from: &FileName, to: &FileName) -> Result<(), Failed>
+        ensures time { Ticks self.old self.new }
+        ensures spent { self.old.counts.made ≡ 2 ^ 64 - 1 → IsErr result }
+        ensures breaks { StaysBroken self.old self.new result }
+        ensures cause { HasCause self.old.counts.faults self.new.counts.faults result }
+        ensures attachment { self.new.attachment ≡ self.old.attachment }
+        ensures keeps { Leaves IsSameFolder self.old self.new }
+        ensures renamed { OnOk result (BothAttached (HasRenamed R.answered from.now to.now) self.old self.new) }
+        ensures failed { OnErr result ((self.new.folder ≡ self.old.folder) ⊎ BothAttached MayHaveChanged self.old self.new) }
+    {
+        self.counts.begin()?;
+        let Some(folder) = &mut self.folder else {
+            return Err(self.counts.faults.raise());
+        };
+        let answer = folder.rename(from, to);
+        self.counts.faults.note(answer)
+    }
+
+    fn sync(&mut self) -> Result<(), Failed>
+        ensures time { Ticks self.old self.new }
+        ensures spent { self.old.counts.made ≡ 2 ^ 64 - 1 → IsErr result }
+        ensures breaks { StaysBroken self.old self.new result }
+        ensures cause { HasCause self.old.counts.faults self.new.counts.faults result }
+        ensures attachment { self.new.attachment ≡ self.old.attachment }
+        ensures settled { OnOk result (BothAttached (λ before after. IsSameFolder before after × Settles F.answered before after × IsSettledWhole after) self.old self.new) }
+        ensures broken { OnErr result ((self.old.counts.made ≡ 2 ^ 64 - 1) ⊎ IsBroken self.new) }
+    {
+        self.counts.begin()?;
+        let answer = match &mut self.folder {
+            Some(folder) => folder.sync(),
+            None => Err(io::ErrorKind::NotConnected.into()),
+        };
+        if answer.is_err() {
+            self.break_off();
         }
-        self.call(|folder| folder.write_at(name, at, piece))
+        self.counts.faults.note(answer)
     }
+}
 
-    fn cut(&mut self, name: &FileName, to: u64) -> Result<(), Failed> {
-        self.call(|folder| folder.cut(name, to))
-    }
-
-    fn make(&mut self, name: &FileName) -> Result<(), Failed> {
-        self.call(|folder| folder.make(name))
-    }
-
-    fn remove(&mut self, name: &FileName) -> Result<(), Failed> {
-        self.call(|folder| folder.remove(name))
-    }
-
-    fn rename(&mut self, from: &FileName, to: &FileName) -> Result<(), Failed> {
-        self.call(|folder| folder.rename(from, to))
-    }
-
-    fn sync(&mut self) -> Result<(), Failed> {
-        self.begin()?;
-        let answer = self.state.sync();
-        self.faults.note(answer)
-    }
+impl<F: SystemFile + Drop, R: System<File = F> + AllocGlobal + Clone + Drop> WholeDisk
+    for DirDisk<R, F> {
+    ghost whole = { refl };
 }

@@ -1,16 +1,17 @@
 //! A directory of the system, and its open files. Nothing here counts faults.
-ghost use Rattle.std.specs.Prelude.{◌≡◌, ◌≢◌, ◌≤◌, ◌⊎◌, [], length, take, drop, true, false, not, IfOk, IfSome, OnOk, OnErr};
+ghost use Rattle.std.specs.Prelude.{◌≡◌, ◌≢◌, ◌≤◌, ◌<◌, ◌+◌, ◌^◌, ◌⊎◌, [], length, take, drop, true, false, string_bytes, IfOk, IfSome, OnOk, OnErr, MatchOption};
 ghost use Rattle.std.specs.List.{All};
 ghost use Rattle.weed_base.specs.Files.{ReadsAt, ReadsSome};
-ghost use Rattle.weed_base.specs.Awaiting.{Wrote, CutTo, SettledAll, AnsweredBy, Awaiting, StillAwaits, IsNamedAt, AwaitsNothing, EachPair, FallsByAnswer, without, AreRenamed};
+ghost use Rattle.weed_base.specs.System.{Wrote, CutTo, MadeDirectory, Missed, Made, path_in, directory_above};
+ghost use Rattle.weed_base.specs.Awaiting.{Awaiting, IsNamedAt};
+ghost use Rattle.weed_base.specs.Folder.{IsOpenAt, OfFile, OfFileOr, IsSettledAt, IsListing, IsOpened, IsSameFolder, KeepsAwaiting, HasMade, HasRemoved, HasRenamed, MayHaveChanged, Settles, IsSettledWhole, path_of};
 
 use crate::file_name::FileName;
-use crate::real::kept::{Awaits, KeptFile, KeptFiles, MAX_END, SystemFile};
+use crate::real::kept::{Awaits, KeptFile, KeptFiles, MAX_END};
+use crate::real::system::{System, SystemFile};
 use std::alloc::{AllocGlobal, Global};
-use std::fs::{File, OpenOptions};
 use std::path::Path;
-use std::rt::Files;
-use std::{fs, io, str};
+use std::{io, str};
 
 /// Reads until the room is full or the file ends.
 fn read_full<F: SystemFile>(file: &F, at: u64, room: &mut [u8]) -> io::Result<usize>
@@ -42,111 +43,117 @@ fn read_behind<F: SystemFile>(file: &F, at: u64, room: &mut [u8], done: usize) -
     file.read_some(at, &mut room[done..])
 }
 
-/// Makes the directory where it isn't there, and settles its name: an earlier process may have been stopped
-/// before it did.
-fn make_folder<F: SystemFile + Drop>(rt: &impl Files<File = F>, place: &str) -> io::Result<()> {
-    match fs::create_dir(rt, place) {
-        Err(error) if error.kind() != io::ErrorKind::AlreadyExists => Err(error),
-        _ => sync_parent(rt, place),
+/// The path of the directory that the place's own name stands in.
+fn directory_above(place: &str) -> &str
+    ensures { result.now ≡ directory_above place.now }
+{
+    match Path::new(place).parent() {
+        Some(above) if !above.as_str().is_empty() => above.as_str(),
+        _ => ".",
     }
 }
 
-fn sync_parent<F: SystemFile + Drop>(rt: &impl Files<File = F>, place: &str) -> io::Result<()> {
-    let parent = Path::new(place)
-        .parent()
-        .map_or("", |parent| parent.as_str());
-    let parent = if parent.is_empty() { "." } else { parent };
-    File::open(rt, parent)?.settle_all()
+/// The text of these bytes.
+fn text_of(bytes: &[u8]) -> io::Result<&str>
+    ensures { IfOk result (λ text. text.now ≡ bytes.now) }
+{
+    Ok(str::from_utf8(bytes).map_err(|_| io::ErrorKind::InvalidFilename)?)
 }
 
 /// The path of a file in the directory at that path.
-fn path_in(rt: &impl AllocGlobal, path: &str, name: &FileName) -> io::Result<String> {
-    let name = str::from_utf8(name.as_slice()).map_err(|_| io::ErrorKind::InvalidFilename)?;
-    Ok(format!(in rt.alloc(); "{path}/{name}")?)
+fn path_in(alloc: Global, path: &str, name: &FileName) -> io::Result<String>
+    ensures { IfOk result (λ text. string_bytes text ≡ path_in path.now name.now) }
+{
+    let name = text_of(name.as_slice())?;
+    Ok(format!(in alloc; "{path}/{name}")?)
 }
 
-/// The names of files in the directory at that path, in byte order. Other names are left out.
-fn names_in<R: Files + AllocGlobal + Clone>(
-    rt: &R,
-    path: &str,
-    alloc: Global,
-) -> io::Result<Vec<FileName>> {
-    let mut names = Vec::new(alloc);
-    for entry in fs::read_dir(rt, path)? {
-        let entry = entry?;
-        if let Some(name) = FileName::new(entry.file_name().as_bytes())
-            && entry.file_type()?.is_file()
-        {
-            names.push(name)?;
-        }
+/// Settles what lies at a path.
+fn settle_at<F: SystemFile + Drop, R: System<File = F>>(system: &R, path: &str) -> io::Result<()>
+    ensures { OnOk result (IsSettledAt (λ call. R.answered call system.now) F.answered path.now) }
+{
+    system.open(path)?.settle_all()
+}
+
+/// Makes the directory where it isn't there, and settles its name: an earlier process may have been stopped
+/// before it did.
+fn make_folder<F: SystemFile + Drop, R: System<File = F>>(system: &R, place: &str) -> io::Result<()>
+    ensures made { OnOk result (R.answered (MadeDirectory place.now) system.now) }
+    ensures above { OnOk result (IsSettledAt (λ call. R.answered call system.now) F.answered (directory_above place.now)) }
+{
+    system.make_directory(place)?;
+    settle_at(system, directory_above(place))
+}
+
+/// Settles each file of these names in the directory.
+fn settle_each<F: SystemFile + Drop, R: System<File = F> + AllocGlobal>(
+    system: &R,
+    place: &str,
+    names: &[FileName],
+) -> io::Result<()>
+    ensures { OnOk result (All (λ name. IsSettledAt (λ call. R.answered call system.now) F.answered (path_in place.now name)) names.now) }
+{
+    for name in names {
+        let path = path_in(system.alloc(), place, name)?;
+        settle_at(system, path.as_str())?;
     }
-    names.sort_unstable();
-    Ok(names)
+    Ok(())
 }
 
 /// An attached directory.
 #[derive(Drop)]
-pub(crate) struct Folder<R, F = File> {
-    rt: R,
+pub(crate) struct Folder<R, F> {
+    system: R,
     path: String,
     kept: KeptFiles<F>,
 }
 
-impl<F: SystemFile + Drop, R: Files<File = F> + AllocGlobal + Clone + Drop> Folder<R, F> {
+impl<F: SystemFile + Drop, R: System<File = F> + AllocGlobal + Drop> Folder<R, F> {
     /// Opens a directory, which is made where it isn't there, and settles it, since an earlier process may
     /// have left it unsettled.
-    pub(crate) fn open(rt: R, place: &[u8]) -> io::Result<Folder<R, F>>
-        ensures settled { IfOk result (λ folder. F.answered SettledAll folder.kept.folder) }
-        ensures files { IfOk result (λ folder. folder.kept.files.items ≡ []) }
-        ensures names { IfOk result (λ folder. folder.kept.names_await ≡ false) }
+    pub(crate) fn open(system: R, place: &[u8]) -> io::Result<Folder<R, F>>
+        ensures { IfOk result (IsOpened R.answered F.answered place.now) }
     {
-        let place = str::from_utf8(place).map_err(|_| io::ErrorKind::InvalidFilename)?;
-        make_folder(&rt, place)?;
-        let folder = File::open(&rt, place)?;
-        for name in names_in(&rt, place, rt.alloc())? {
-            File::open(&rt, path_in(&rt, place, &name)?)?.settle_all()?;
-        }
-        folder.settle_all()?;
+        let place = text_of(place)?;
+        make_folder(&system, place)?;
+        let directory = system.open(place)?;
+        let names = system.list(system.alloc(), place)?;
+        settle_each(&system, place, names.as_slice())?;
+        directory.settle_all()?;
         Ok(Folder {
-            path: String::from_str(rt.alloc(), place)?,
-            kept: KeptFiles::new(rt.alloc(), folder),
-            rt,
+            path: String::from_str(system.alloc(), place)?,
+            kept: KeptFiles::new(system.alloc(), directory),
+            system,
         })
     }
 
-    fn path_of(&self, name: &FileName) -> io::Result<String> {
-        path_in(&self.rt, self.path.as_str(), name)
+    fn path_of(&self, name: &FileName) -> io::Result<String>
+        ensures { IfOk result (λ path. string_bytes path ≡ path_of self.now name.now) }
+    {
+        path_in(self.system.alloc(), self.path.as_str(), name)
     }
 
     /// The names of files, in byte order. Other names are left out.
-    pub(crate) fn names(&self, alloc: Global) -> io::Result<Vec<FileName>> {
-        names_in(&self.rt, self.path.as_str(), alloc)
+    pub(crate) fn names(&self, alloc: Global) -> io::Result<Vec<FileName>>
+        ensures { IfOk result (λ names. IsListing R.answered names.items self.now) }
+    {
+        let mut names = self.system.list(alloc, self.path.as_str())?;
+        names.sort_unstable();
+        Ok(names)
     }
 
-    /// Opens a file that is there.
-    fn open_existing(&self, name: &FileName) -> io::Result<Option<F>> {
-        let path = self.path_of(name)?;
-        let opened = OpenOptions::new()
-            .read(true)
-            .write(true)
-            .open(&self.rt, path);
-        match opened {
-            Ok(file) => Ok(Some(file)),
-            Err(error) if error.kind() == io::ErrorKind::NotFound => Ok(None),
-            Err(error) => Err(error),
-        }
-    }
-
-    /// The place of the kept file of that name, where it is there.
+    /// The place of the open file of that name, where it is there.
     fn place_of(&mut self, name: &FileName) -> io::Result<Option<usize>>
         ensures place { IfOk result (λ found. IfSome found (λ place. IsNamedAt name.now place self.new.kept.files.items)) }
-        ensures still { StillAwaits self.old.kept.files.items self.new.kept.files.items }
-        ensures names { self.new.kept.names_await ≡ self.old.kept.names_await }
+        ensures opened { IfOk result (λ found. MatchOption found (R.answered (Missed (path_of self.old name.now)) self.old.system)
+            (IsOpenAt (λ call. R.answered call self.old.system) (path_of self.old name.now) name.now self.old.kept.files.items self.new.kept.files.items)) }
+        ensures keeps { KeepsAwaiting self.old self.new }
     {
         if let Some(place) = self.kept.place_of(name) {
             return Ok(Some(place));
         }
-        let Some(file) = self.open_existing(name)? else {
+        let path = self.path_of(name)?;
+        let Some(file) = self.system.open_existing(path.as_str())? else {
             return Ok(None);
         };
         let opened = KeptFile::new(name.copy(), file, Awaits::Nothing);
@@ -155,19 +162,22 @@ impl<F: SystemFile + Drop, R: Files<File = F> + AllocGlobal + Clone + Drop> Fold
 
     /// A file's length in bytes, where it is there.
     pub(crate) fn size(&mut self, name: &FileName) -> io::Result<Option<u64>>
-        ensures still { StillAwaits self.old.kept.files.items self.new.kept.files.items }
-        ensures names { self.new.kept.names_await ≡ self.old.kept.names_await }
+        ensures size { IfOk result (λ size. MatchOption size (R.answered (Missed (path_of self.old name.now)) self.old.system)
+            (λ size. OfFile R.answered (λ file. IfSome (F.bytes file) (λ told. size ≡ length told)) name.now self.old)) }
+        ensures keeps { KeepsAwaiting self.old self.new }
     {
         match self.place_of(name)? {
-            Some(place) => Ok(Some(self.kept.file(place).metadata()?.len())),
+            Some(place) => Ok(Some(self.kept.file(place).size()?)),
             None => Ok(None),
         }
     }
 
+    /// Puts the file's bytes from `at` on into the front of `room`, as many as there are and fit, and answers
+    /// how many; none where the file isn't there.
     pub(crate) fn read_at(&mut self, name: &FileName, at: u64, room: &mut [u8]) -> io::Result<usize>
-        ensures count { IfOk result (λ count. count ≤ length room.new) }
-        ensures still { StillAwaits self.old.kept.files.items self.new.kept.files.items }
-        ensures names { self.new.kept.names_await ≡ self.old.kept.names_await }
+        ensures bound { IfOk result (λ count. count ≤ length room.new) }
+        ensures read { IfOk result (λ count. OfFileOr R.answered (count ≡ 0) (λ file. IfSome (F.bytes file) (λ told. ReadsAt told at count room.new)) name.now self.old) }
+        ensures keeps { KeepsAwaiting self.old self.new }
     {
         match self.place_of(name)? {
             Some(place) => read_full(self.kept.file(place), at, room),
@@ -175,11 +185,12 @@ impl<F: SystemFile + Drop, R: Files<File = F> + AllocGlobal + Clone + Drop> Fold
         }
     }
 
+    /// Writes the piece over what is there, and past the end.
     pub(crate) fn write_at(&mut self, name: &FileName, at: u64, piece: &[u8]) -> io::Result<()>
-        ensures written { OnOk result (AnsweredBy F.answered (Wrote at piece.now) name.now self.new.kept.files.items) }
+        ensures written { OnOk result (OfFile R.answered (F.answered (Wrote at piece.now)) name.now self.old) }
         ensures marked { OnOk result (Awaiting name.now Awaits.Data self.new.kept.files.items) }
-        ensures still { StillAwaits self.old.kept.files.items self.new.kept.files.items }
-        ensures names { self.new.kept.names_await ≡ self.old.kept.names_await }
+        ensures bound { OnOk result (at + length piece.now < 2 ^ 63) }
+        ensures keeps { KeepsAwaiting self.old self.new }
     {
         match self.place_of(name)? {
             Some(place) => self.kept.write_at(place, at, piece),
@@ -187,11 +198,11 @@ impl<F: SystemFile + Drop, R: Files<File = F> + AllocGlobal + Clone + Drop> Fold
         }
     }
 
+    /// Cuts a file to a length.
     pub(crate) fn cut(&mut self, name: &FileName, to: u64) -> io::Result<()>
-        ensures cut { OnOk result (AnsweredBy F.answered (CutTo to) name.now self.new.kept.files.items) }
+        ensures cut { OnOk result (OfFile R.answered (F.answered (CutTo to)) name.now self.old) }
         ensures marked { OnOk result (Awaiting name.now Awaits.Everything self.new.kept.files.items) }
-        ensures still { StillAwaits self.old.kept.files.items self.new.kept.files.items }
-        ensures names { self.new.kept.names_await ≡ self.old.kept.names_await }
+        ensures keeps { KeepsAwaiting self.old self.new }
     {
         match self.place_of(name)? {
             Some(place) => self.kept.cut(place, to),
@@ -201,12 +212,14 @@ impl<F: SystemFile + Drop, R: Files<File = F> + AllocGlobal + Clone + Drop> Fold
 
     /// Makes a file that isn't there.
     fn make_new(&mut self, name: &FileName) -> io::Result<()>
+        ensures made { OnOk result ((file : F) × R.answered (Made (path_of self.old name.now) file) self.old.system) }
         ensures marked { OnOk result (Awaiting name.now Awaits.Everything self.new.kept.files.items) }
-        ensures still { StillAwaits self.old.kept.files.items self.new.kept.files.items }
+        ensures keeps { KeepsAwaiting self.old self.new }
         ensures names { self.new.kept.names_await ≡ true }
     {
         self.kept.note_names();
-        let file = File::create_new(&self.rt, self.path_of(name)?)?;
+        let path = self.path_of(name)?;
+        let file = self.system.make_file(path.as_str())?;
         let made = KeptFile::new(name.copy(), file, Awaits::Everything);
         self.kept.keep(made)?;
         Ok(())
@@ -214,10 +227,8 @@ impl<F: SystemFile + Drop, R: Files<File = F> + AllocGlobal + Clone + Drop> Fold
 
     /// Makes a file, or empties the one that is there.
     pub(crate) fn make(&mut self, name: &FileName) -> io::Result<()>
-        ensures marked { OnOk result (Awaiting name.now Awaits.Everything self.new.kept.files.items) }
-        ensures still { StillAwaits self.old.kept.files.items self.new.kept.files.items }
-        ensures made { OnOk result ((self.new.kept.names_await ≡ true) ⊎ AnsweredBy F.answered (CutTo 0) name.now self.new.kept.files.items) }
-        ensures names { (self.new.kept.names_await ≡ self.old.kept.names_await) ⊎ (self.new.kept.names_await ≡ true) }
+        ensures made { OnOk result (HasMade R.answered F.answered name.now self.old self.new) }
+        ensures keeps { KeepsAwaiting self.old self.new }
     {
         match self.place_of(name)? {
             Some(place) => self.kept.cut(place, 0),
@@ -227,28 +238,27 @@ impl<F: SystemFile + Drop, R: Files<File = F> + AllocGlobal + Clone + Drop> Fold
 
     /// Removes a file, where it is there.
     pub(crate) fn remove(&mut self, name: &FileName) -> io::Result<()>
-        ensures gone { OnOk result (self.new.kept.files.items ≡ without name.now self.old.kept.files.items) }
-        ensures failed { OnErr result (self.new.kept.files.items ≡ self.old.kept.files.items) }
-        ensures names { self.new.kept.names_await ≡ true }
+        ensures removed { OnOk result (HasRemoved R.answered name.now self.old self.new) }
+        ensures failed { OnErr result (MayHaveChanged self.old self.new) }
+        ensures same { IsSameFolder self.old self.new }
     {
         self.kept.note_names();
-        match fs::remove_file(&self.rt, self.path_of(name)?) {
-            Err(error) if error.kind() != io::ErrorKind::NotFound => Err(error),
-            _ => {
-                self.kept.forget(name);
-                Ok(())
-            }
-        }
+        let path = self.path_of(name)?;
+        self.system.remove_file(path.as_str())?;
+        self.kept.forget(name);
+        Ok(())
     }
 
+    /// Renames a file, which takes the place of what had the new name.
     pub(crate) fn rename(&mut self, from: &FileName, to: &FileName) -> io::Result<()>
-        ensures same { from.now ≡ to.now → self.new.kept.files.items ≡ self.old.kept.files.items }
-        ensures moved { OnOk result (from.now ≢ to.now → AreRenamed from.now to.now self.old.kept.files.items self.new.kept.files.items) }
-        ensures failed { OnErr result (self.new.kept.files.items ≡ self.old.kept.files.items) }
-        ensures names { self.new.kept.names_await ≡ true }
+        ensures renamed { OnOk result (HasRenamed R.answered from.now to.now self.old self.new) }
+        ensures failed { OnErr result (MayHaveChanged self.old self.new) }
+        ensures same { IsSameFolder self.old self.new }
     {
         self.kept.note_names();
-        fs::rename(&self.rt, self.path_of(from)?, self.path_of(to)?)?;
+        let old = self.path_of(from)?;
+        let new = self.path_of(to)?;
+        self.system.rename_file(old.as_str(), new.as_str())?;
         if from != to {
             self.kept.rename(from, to);
         }
@@ -257,9 +267,9 @@ impl<F: SystemFile + Drop, R: Files<File = F> + AllocGlobal + Clone + Drop> Fold
 
     /// Settles each file that was made, written or cut since the last sync, and the names.
     pub(crate) fn sync(&mut self) -> io::Result<()>
-        ensures marks { EachPair (FallsByAnswer F.answered) self.old.kept.files.items self.new.kept.files.items }
-        ensures names { (self.new.kept.names_await ≡ self.old.kept.names_await) ⊎ ((self.new.kept.names_await ≡ false) × F.answered SettledAll self.old.kept.folder) }
-        ensures settled { OnOk result (All AwaitsNothing self.new.kept.files.items × (self.new.kept.names_await ≡ false)) }
+        ensures falls { Settles F.answered self.old self.new }
+        ensures settled { OnOk result (IsSettledWhole self.new) }
+        ensures same { IsSameFolder self.old self.new }
     {
         self.kept.sync()
     }

@@ -1,17 +1,16 @@
 //! The open files of a directory, and what they await of the next sync.
-ghost use Rattle.std.specs.Prelude.{◌≡◌, ◌≢◌, ◌≤◌, ◌<◌, ◌+◌, ◌^◌, ◌⊎◌, ℕ, List, [], ⊤, length, slice_index_or, Option, None, true, false, IsTrue, IsFalse, IfOk, IfSome, OnOk, OnErr};
+ghost use Rattle.std.specs.Prelude.{◌≡◌, ◌≢◌, ◌≤◌, ◌<◌, ◌+◌, ◌^◌, ◌⊎◌, ℕ, List, [], length, slice_index_or, true, false, IfOk, OnOk};
 ghost use Rattle.std.specs.List.{All, position};
 ghost use Rattle.std.specs.Str.{bytes_eq};
-ghost use Rattle.weed_base.specs.Files.{ReadsSome};
-ghost use Rattle.weed_base.specs.Awaiting.{FileCall, Wrote, CutTo, SettledData, SettledAll, AnsweredBy, Covers, Awaiting, StillAwaits, IsNamedAt, FallsByAnswer, EachPair, AwaitsNothing, without, AreRenamed};
+ghost use Rattle.weed_base.specs.System.{Wrote, CutTo, SettledAll};
+ghost use Rattle.weed_base.specs.Awaiting.{Covers, Awaiting, StillAwaits, IsNamedAt, IsFileAt, FallsByAnswer, EachPair, AwaitsNothing, without, AreRenamed};
 ghost use Rattle.weed_base.specs.declared.real.kept.Awaits.{Awaits};
 ghost use Rattle.weed_base.specs.declared.real.kept.Awaits.TheVariants.{Nothing, Data, Everything};
 
 use crate::file_name::FileName;
+use crate::real::system::SystemFile;
 use std::alloc::Global;
-use std::fs::{File, OpenFile};
 use std::io;
-use std::os::unix::fs::FileExt;
 
 /// So many files are kept open, besides those that await a sync.
 const MAX_KEPT: usize = 64;
@@ -27,68 +26,6 @@ pub(super) enum Awaits {
     Data,
     /// The file was made or cut.
     Everything,
-}
-
-/// A file of the system. What a call did no contract can see; that it was made and answered Ok, generic code
-/// has from these calls alone.
-pub(super) trait SystemFile: OpenFile + FileExt {
-    /// That call of it answered Ok.
-    ghost answered: { FileCall → Self → Type 0 };
-
-    /// Its bytes, where told: of a file that is only read.
-    ghost bytes: { Self → Option (List ℕ) };
-
-    /// None has 2^63 bytes.
-    ghost short: { (file : Self) → IfSome (bytes file) (λ told. length told < 2 ^ 63) };
-
-    /// Puts bytes from `at` on into the front of `room`, and answers how many: none only at the end, or for no
-    /// room.
-    fn read_some(&self, at: u64, room: &mut [u8]) -> io::Result<usize>
-        ensures bound { IfOk result (λ count. count ≤ length room.new) }
-        ensures read { IfOk result (λ count. IfSome (bytes self.now) (λ told. ReadsSome told at count room.new)) };
-
-    /// Writes all of the piece.
-    fn write_piece(&self, at: u64, piece: &[u8]) -> io::Result<()>
-        ensures { OnOk result (answered (Wrote at piece.now) self.now) };
-
-    fn cut(&self, to: u64) -> io::Result<()>
-        ensures { OnOk result (answered (CutTo to) self.now) };
-
-    /// Settles the bytes, and the length.
-    fn settle_data(&self) -> io::Result<()>
-        ensures { OnOk result (answered SettledData self.now) };
-
-    /// Settles all of the file, and of a directory the names.
-    fn settle_all(&self) -> io::Result<()>
-        ensures { OnOk result (answered SettledAll self.now) };
-}
-
-impl SystemFile for File {
-    ghost answered = { λ _ _. ⊤ };
-
-    ghost bytes = { λ _. None };
-
-    ghost short = { λ _. tt };
-
-    fn read_some(&self, at: u64, room: &mut [u8]) -> io::Result<usize> {
-        self.read_at(room, at)
-    }
-
-    fn write_piece(&self, at: u64, piece: &[u8]) -> io::Result<()> {
-        self.write_all_at(piece, at)
-    }
-
-    fn cut(&self, to: u64) -> io::Result<()> {
-        self.set_len(to)
-    }
-
-    fn settle_data(&self) -> io::Result<()> {
-        self.sync_data()
-    }
-
-    fn settle_all(&self) -> io::Result<()> {
-        self.sync_all()
-    }
 }
 
 #[derive(Drop)]
@@ -162,43 +99,47 @@ fn sync_each<F: SystemFile + Drop>(files: &mut [KeptFile<F>]) -> io::Result<()>
 /// The open files of a directory, and whether its names await a sync too.
 #[derive(Drop)]
 pub(super) struct KeptFiles<F> {
-    folder: F,
+    directory: F,
     files: Vec<KeptFile<F>>,
     names_await: bool,
 }
 
 impl<F: SystemFile + Drop> KeptFiles<F> {
     /// Those of a directory that is settled.
-    pub(super) fn new(alloc: Global, folder: F) -> KeptFiles<F>
-        ensures folder { result.folder ≡ folder }
+    pub(super) fn new(alloc: Global, directory: F) -> KeptFiles<F>
+        ensures directory { result.directory ≡ directory }
         ensures files { result.files.items ≡ [] }
         ensures names { result.names_await ≡ false }
     {
         KeptFiles {
-            folder,
+            directory,
             files: Vec::new(alloc),
             names_await: false,
         }
     }
 
+    /// The place of the first open file of that name.
     pub(super) fn place_of(&self, name: &FileName) -> Option<usize>
         ensures { result ≡ position (λ kept. bytes_eq kept.name name.now) self.now.files.items }
     {
         self.files.iter().position(|kept| kept.name == *name)
     }
 
+    /// The file at that place.
     pub(super) fn file(&self, place: usize) -> &F
         requires { place < length self.now.files.items }
+        ensures { IsFileAt place self.now.files.items result.now }
     {
         &self.files[place].file
     }
 
     /// Keeps an open file, and lets those go that await nothing where there are too many. Answers its place.
     pub(super) fn keep(&mut self, opened: KeptFile<F>) -> io::Result<usize>
-        ensures kept { IfOk result (λ place. IsNamedAt opened.name place self.new.files.items) }
+        ensures kept { IfOk result (λ place. IsNamedAt opened.name place self.new.files.items × IsFileAt place self.new.files.items opened.file) }
         ensures marked { OnOk result (Awaiting opened.name opened.awaits self.new.files.items) }
         ensures still { StillAwaits self.old.files.items self.new.files.items }
         ensures names { self.new.names_await ≡ self.old.names_await }
+        ensures directory { self.new.directory ≡ self.old.directory }
     {
         if self.files.len() >= MAX_KEPT {
             self.files.retain(|kept| kept.awaits != Awaits::Nothing);
@@ -208,23 +149,27 @@ impl<F: SystemFile + Drop> KeptFiles<F> {
         Ok(place)
     }
 
+    /// Writes to the file at that place.
     pub(super) fn write_at(&mut self, place: usize, at: u64, piece: &[u8]) -> io::Result<()>
         requires { place < length self.old.files.items }
         ensures fits { OnOk result (at + length piece.now < 2 ^ 63) }
         ensures marked { (name : List ℕ) → IsNamedAt name place self.old.files.items → at + length piece.now < 2 ^ 63 → Awaiting name Awaits.Data self.new.files.items }
-        ensures written { (name : List ℕ) → IsNamedAt name place self.old.files.items → OnOk result (AnsweredBy F.answered (Wrote at piece.now) name self.new.files.items) }
+        ensures written { (file : F) → IsFileAt place self.old.files.items file → OnOk result (F.answered (Wrote at piece.now) file) }
         ensures still { StillAwaits self.old.files.items self.new.files.items }
         ensures names { self.new.names_await ≡ self.old.names_await }
+        ensures directory { self.new.directory ≡ self.old.directory }
     {
         self.files[place].write_at(at, piece)
     }
 
+    /// Cuts the file at that place.
     pub(super) fn cut(&mut self, place: usize, to: u64) -> io::Result<()>
         requires { place < length self.old.files.items }
         ensures marked { (name : List ℕ) → IsNamedAt name place self.old.files.items → Awaiting name Awaits.Everything self.new.files.items }
-        ensures cut { (name : List ℕ) → IsNamedAt name place self.old.files.items → OnOk result (AnsweredBy F.answered (CutTo to) name self.new.files.items) }
+        ensures cut { (file : F) → IsFileAt place self.old.files.items file → OnOk result (F.answered (CutTo to) file) }
         ensures still { StillAwaits self.old.files.items self.new.files.items }
         ensures names { self.new.names_await ≡ self.old.names_await }
+        ensures directory { self.new.directory ≡ self.old.directory }
     {
         self.files[place].cut(to)
     }
@@ -233,6 +178,7 @@ impl<F: SystemFile + Drop> KeptFiles<F> {
     pub(super) fn note_names(&mut self)
         ensures files { self.new.files.items ≡ self.old.files.items }
         ensures names { self.new.names_await ≡ true }
+        ensures directory { self.new.directory ≡ self.old.directory }
     {
         self.names_await = true;
     }
@@ -241,6 +187,7 @@ impl<F: SystemFile + Drop> KeptFiles<F> {
     pub(super) fn forget(&mut self, name: &FileName)
         ensures files { self.new.files.items ≡ without name.now self.old.files.items }
         ensures names { self.new.names_await ≡ self.old.names_await }
+        ensures directory { self.new.directory ≡ self.old.directory }
     {
         self.files.retain(|kept| kept.name != *name);
     }
@@ -249,6 +196,7 @@ impl<F: SystemFile + Drop> KeptFiles<F> {
     pub(super) fn rename(&mut self, from: &FileName, to: &FileName)
         ensures files { AreRenamed from.now to.now self.old.files.items self.new.files.items }
         ensures names { self.new.names_await ≡ self.old.names_await }
+        ensures directory { self.new.directory ≡ self.old.directory }
     {
         self.forget(to);
         for kept in self.files.iter_mut() {
@@ -261,12 +209,13 @@ impl<F: SystemFile + Drop> KeptFiles<F> {
     /// Settles each file that was made, written or cut since the last sync, and the names.
     pub(super) fn sync(&mut self) -> io::Result<()>
         ensures marks { EachPair (FallsByAnswer F.answered) self.old.files.items self.new.files.items }
-        ensures names { (self.new.names_await ≡ self.old.names_await) ⊎ ((self.new.names_await ≡ false) × F.answered SettledAll self.old.folder) }
+        ensures names { (self.new.names_await ≡ self.old.names_await) ⊎ ((self.new.names_await ≡ false) × F.answered SettledAll self.old.directory) }
         ensures settled { OnOk result (All AwaitsNothing self.new.files.items × (self.new.names_await ≡ false)) }
+        ensures directory { self.new.directory ≡ self.old.directory }
     {
         sync_each(&mut self.files)?;
         if self.names_await {
-            self.folder.settle_all()?;
+            self.directory.settle_all()?;
             self.names_await = false;
         }
         Ok(())

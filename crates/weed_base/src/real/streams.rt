@@ -1,12 +1,24 @@
-ghost use Rattle.std.specs.Prelude.{◌≡◌, IsSome};
+ghost use Rattle.std.specs.Prelude.{◌≡◌, IsSome, ⊤};
+ghost use Rattle.std.specs.Io.{ReadsAtMost, WritesAtMost};
+ghost use Rattle.std.specs.Io.KnownBytes.{ReadConsumes, WriteAppends};
+ghost use Rattle.weed_base.specs.Told.{raised, HasCause, HasWriteCause, Reads, Writes};
 
 use crate::faults::Faults;
 use crate::sink::Sink;
 use crate::source::{Failed, Source};
-use std::io::{Cursor, Read, Stderr, Stdin, Stdout, Write};
+use std::io::{self, Cursor, Read, Stderr, Stdin, Stdout, Write};
 
 /// A reader of a type that tells of each of its values what is left, or of none.
 pub trait SteadyRead: Read {
+    /// One read of it led from here to there. Generic code has this from `read_once` alone.
+    ghost one_read: { Self → Self → Type 0 };
+
+    /// Reads as `read` does.
+    fn read_once(&mut self, room: &mut [u8]) -> io::Result<usize>
+        ensures bound { ReadsAtMost result room.new }
+        ensures bytes { ReadConsumes (Self.remaining self.old) (Self.remaining self.new) result room.new }
+        ensures once { one_read self.old self.new };
+
     /// Where one tells, each does.
     ghost steady: { (one other : Self) → IsSome (Self.remaining one) → IsSome (Self.remaining other) };
 }
@@ -14,18 +26,45 @@ pub trait SteadyRead: Read {
 /// The system tells nothing of its input.
 impl SteadyRead for Stdin {
     ghost steady = { λ _ _ told. told };
+
+    ghost one_read = { λ _ _. ⊤ };
+
+    fn read_once(&mut self, room: &mut [u8]) -> io::Result<usize> {
+        self.read(room)
+    }
 }
 
 impl SteadyRead for &[u8] {
     ghost steady = { λ _ _ told. told };
+
+    ghost one_read = { λ _ _. ⊤ };
+
+    fn read_once(&mut self, room: &mut [u8]) -> io::Result<usize> {
+        self.read(room)
+    }
 }
 
 impl SteadyRead for Cursor<Vec<u8>> {
     ghost steady = { λ _ _ told. told };
+
+    ghost one_read = { λ _ _. ⊤ };
+
+    fn read_once(&mut self, room: &mut [u8]) -> io::Result<usize> {
+        self.read(room)
+    }
 }
 
 /// A writer of a type that tells of each of its values what was written, or of none.
 pub trait SteadyWrite: Write {
+    /// One write of it led from here to there. Generic code has this from `write_once` alone.
+    ghost one_write: { Self → Self → Type 0 };
+
+    /// Writes as `write` does.
+    fn write_once(&mut self, piece: &[u8]) -> io::Result<usize>
+        ensures bound { WritesAtMost result piece.now }
+        ensures bytes { WriteAppends (Self.contents self.old) (Self.contents self.new) result piece.now }
+        ensures once { one_write self.old self.new };
+
     /// Where one tells, each does.
     ghost steady: { (one other : Self) → IsSome (Self.contents one) → IsSome (Self.contents other) };
 }
@@ -33,18 +72,42 @@ pub trait SteadyWrite: Write {
 /// The system tells nothing of its output.
 impl SteadyWrite for Stdout {
     ghost steady = { λ _ _ told. told };
+
+    ghost one_write = { λ _ _. ⊤ };
+
+    fn write_once(&mut self, piece: &[u8]) -> io::Result<usize> {
+        self.write(piece)
+    }
 }
 
 impl SteadyWrite for Stderr {
     ghost steady = { λ _ _ told. told };
+
+    ghost one_write = { λ _ _. ⊤ };
+
+    fn write_once(&mut self, piece: &[u8]) -> io::Result<usize> {
+        self.write(piece)
+    }
 }
 
 impl SteadyWrite for Vec<u8> {
     ghost steady = { λ _ _ told. told };
+
+    ghost one_write = { λ _ _. ⊤ };
+
+    fn write_once(&mut self, piece: &[u8]) -> io::Result<usize> {
+        self.write(piece)
+    }
 }
 
 impl SteadyWrite for &mut [u8] {
     ghost steady = { λ _ _ told. told };
+
+    ghost one_write = { λ _ _. ⊤ };
+
+    fn write_once(&mut self, piece: &[u8]) -> io::Result<usize> {
+        self.write(piece)
+    }
 }
 
 /// A source over a reader of the outside. Each read is one read of it. What is left is told where the reader
@@ -52,7 +115,7 @@ impl SteadyWrite for &mut [u8] {
 #[derive(Drop)]
 pub struct ReaderSource<R> {
     reader: R,
-    made: u64,
+    reads: u64,
     faults: Faults,
 }
 
@@ -61,11 +124,11 @@ pub type StandardInput = ReaderSource<Stdin>;
 
 impl<R: Read> ReaderSource<R> {
     pub fn new(reader: R) -> ReaderSource<R>
-        ensures { result ≡ record { reader = reader; made = 0; faults = 0 } }
+        ensures { result ≡ record { reader = reader; reads = 0; faults = 0 } }
     {
         ReaderSource {
             reader,
-            made: 0,
+            reads: 0,
             faults: Faults::new(),
         }
     }
@@ -83,11 +146,16 @@ impl<R: SteadyRead> Source for ReaderSource<R> {
 
     ghost faults = { λ source. source.faults };
 
-    ghost reads = { λ source. source.made };
+    ghost reads = { λ source. source.reads };
 
-    fn read(&mut self, room: &mut [u8]) -> Result<usize, Failed> {
-        self.made = self.made.saturating_add(1);
-        let answer = self.reader.read(room);
+    fn read(&mut self, room: &mut [u8]) -> Result<usize, Failed>
+        ensures bytes { Reads (R.remaining self.old.reader) (R.remaining self.new.reader) result room.new }
+        ensures cause { HasCause self.old.faults self.new.faults result }
+        ensures counted { self.new.reads ≡ raised self.old.reads }
+        ensures once { R.one_read self.old.reader self.new.reader }
+    {
+        self.reads = self.reads.saturating_add(1);
+        let answer = self.reader.read_once(room);
         self.faults.note(answer)
     }
 }
@@ -129,8 +197,12 @@ impl<W: SteadyWrite> Sink for WriterSink<W> {
 
     ghost faults = { λ sink. sink.faults };
 
-    fn write(&mut self, piece: &[u8]) -> Result<usize, Failed> {
-        let answer = self.writer.write(piece);
+    fn write(&mut self, piece: &[u8]) -> Result<usize, Failed>
+        ensures bytes { Writes (W.contents self.old.writer) (W.contents self.new.writer) result piece.now }
+        ensures cause { HasWriteCause self.old.faults self.new.faults result piece.now }
+        ensures once { W.one_write self.old.writer self.new.writer }
+    {
+        let answer = self.writer.write_once(piece);
         self.faults.note_write(answer, piece)
     }
 }

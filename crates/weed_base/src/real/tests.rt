@@ -1,4 +1,4 @@
-use super::{DirHost, ReaderSource, SystemClock, WriterSink};
+use super::{DirDisk, ReaderSource, SinkHost, SystemClock, WriterSink};
 use crate::trials::{fill, moment, name, read, send, write, write_at};
 use crate::{Disk, Failed, Word};
 use std::fs;
@@ -28,14 +28,20 @@ fn the_system_has_a_clock_past_2020(rt: HostRuntime) {
     assert!(rt; moment(&mut SystemClock::new(rt)) > 1_577_836_800_000_000_000);
 }
 
+type DirHost = SinkHost<DirDisk<HostRuntime>, WriterSink<Vec<u8>>>;
+
+fn detached(rt: HostRuntime) -> DirHost {
+    SinkHost::new(DirDisk::new(rt), WriterSink::new(Vec::new(rt.alloc())))
+}
+
 /// A host over a directory of that name that isn't there.
-fn fresh(rt: HostRuntime, place: &str) -> Result<DirHost<HostRuntime, Vec<u8>>, Fail> {
+fn fresh(rt: HostRuntime, place: &str) -> Result<DirHost, Fail> {
     let _ = fs::remove_dir_all(&rt, place);
     attached(rt, place)
 }
 
-fn attached(rt: HostRuntime, place: &str) -> Result<DirHost<HostRuntime, Vec<u8>>, Fail> {
-    let mut host = DirHost::new(rt, Vec::new(rt.alloc()));
+fn attached(rt: HostRuntime, place: &str) -> Result<DirHost, Fail> {
+    let mut host = detached(rt);
     host.attach(Word::new(rt.alloc(), place.as_bytes())?)?;
     Ok(host)
 }
@@ -69,10 +75,10 @@ fn a_directory_has_the_names_of_its_files(rt: HostRuntime) -> Result<(), Fail> {
 
 #[test]
 fn a_directory_that_is_not_attached_fails(rt: HostRuntime) -> Result<(), Fail> {
-    let mut host = DirHost::new(rt, Vec::new(rt.alloc()));
+    let mut host = detached(rt);
     assert_eq!(rt; host.size(&name(b"a")?), Err(Failed));
     let below = Word::new(rt.alloc(), b"weed_base_none/below")?;
     assert_eq!(rt; host.attach(below), Err(Failed));
-    assert_eq!(rt; host.faults(), 2);
+    assert_eq!(rt; host.disk().faults(), 2);
     Ok(())
 }

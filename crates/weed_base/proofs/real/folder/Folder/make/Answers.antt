@@ -1,16 +1,20 @@
-use Rattle.std.proofs.Common.{inr, subst}
+use Rattle.std.proofs.Common.{◌∙◌, inl, subst}
 use Rattle.std.specs.Prelude.{IfSome}
+use Rattle.weed_base.specs.System.{CutTo}
 use Rattle.weed_base.specs.Awaiting.{IsNamedAt}
 use Rattle.weed_base.proofs.AwaitingLemmas.{on_ok}
+use Rattle.weed_base.specs.Folder.{path_of}
+use Rattle.weed_base.proofs.FolderLemmas.{at_found, of_placed, keeps_along, keeps_by}
 use Rattle.weed_base.proofs.real.folder.Folder.make.Goals as goal
-
-pub returns-in-Some-clause-still : goal.returns-in-Some-clause-still
-returns-in-Some-clause-still g c = λ name mark something found. c.cut.ensures.still name mark something (c.place_of.ensures.still name mark something found)
-
-pub returns-in-None-clause-still : goal.returns-in-None-clause-still
-returns-in-None-clause-still g c = λ name mark something found. c.make_new.ensures.still name mark something (c.place_of.ensures.still name mark something found)
 
 pub returns-in-Some-clause-made : goal.returns-in-Some-clause-made
 returns-in-Some-clause-made g c =
     let named = subst (λ found. IfSome found (λ place. IsNamedAt c.args.name.now place c.place_of.new.self.kept.files.items)) c.in-Some.is c.in_ok-place.ensures.place in
-    on_ok c.cut.result (λ answered. inr answered) (c.cut.ensures.cut c.args.name.now named)
+    on_ok c.cut.result (λ emptied. record { made = inl emptied; marked = c.cut.ensures.marked c.args.name.now named })
+    (of_placed (λ call. g.R.System.answered call c.args.self.now.system) (path_of c.args.self.now c.args.name.now) _ _ _ c.in-Some.place c.cut.result (g.F.SystemFile.answered (CutTo 0)) (at_found _ _ _ _ c.in-Some.is c.in_ok-place.ensures.opened) c.cut.ensures.cut)
+
+pub returns-in-Some-clause-keeps : goal.returns-in-Some-clause-keeps
+returns-in-Some-clause-keeps g c = keeps_along c.place_of.ensures.keeps (keeps_by c.place_of.new.self c.cut.new.self c.cut.ensures.still (λ was. c.cut.ensures.names ∙ was) c.cut.ensures.directory)
+
+pub returns-in-None-clause-keeps : goal.returns-in-None-clause-keeps
+returns-in-None-clause-keeps g c = keeps_along c.place_of.ensures.keeps c.make_new.ensures.keeps

@@ -1,6 +1,22 @@
-use Rattle.std.proofs.Common.{sym, ◌∙◌}
+use Rattle.std.proofs.Common.{sym, ap, ◌∙◌, inr, subst, List, ℕ, Option, MatchOption}
+use Rattle.weed_base.specs.System.{PathCall, Opened, Missed}
+use Rattle.weed_base.specs.Folder.{path_of}
 use Rattle.weed_base.proofs.AwaitingLemmas.{named_at_position}
+use Rattle.weed_base.proofs.FolderLemmas.{stands_open}
 use Rattle.weed_base.proofs.real.folder.Folder.place_of.Goals as goal
 
 pub returns-in-Some-clause-place : goal.returns-in-Some-clause-place
 returns-in-Some-clause-place g c = named_at_position _ _ _ (sym c.place_of.ensures ∙ c.in-Some.is)
+
+pub returns-in-Some-clause-opened : goal.returns-in-Some-clause-opened
+returns-in-Some-clause-opened g c = stands_open (λ call. g.R.System.answered call c.args.self.now.system) (path_of c.args.self.now c.args.name.now) _ _ _ (sym c.place_of.ensures ∙ c.in-Some.is)
+
+pub returns-clause-opened : goal.returns-clause-opened
+returns-clause-opened g c =
+    let answered : PathCall g.row.F.Denot → Type 0 = λ call. g.R.System.answered call c.args.self.now.system in
+    let asked = c.as_str.result.now in
+    let opened = subst (λ (found : Option g.row.F.Denot). MatchOption found (answered (Missed asked)) (λ file. answered (Opened asked file))) c.in-Some-2.is c.in_ok-file.ensures in (
+      c.in-Some-2.file,
+      λ d. c.in_ok-keep.ensures.kept.1 d ∙ ap (λ kept. kept.file) c.new-opened.ensures,
+      inr (subst (λ (path : List ℕ). answered (Opened path c.in-Some-2.file)) (c.as_str.ensures.value ∙ c.in_ok-path.ensures) opened),
+    )

@@ -1,6 +1,8 @@
-use Rattle.weed_base.specs.Awaiting.{Covers, CutTo}
+use Rattle.std.proofs.Common.{subst, ap, ◌∙◌, OnOk}
+use Rattle.weed_base.specs.System.{CutTo}
+use Rattle.weed_base.specs.Awaiting.{Covers}
 use Rattle.weed_base.specs.declared.real.kept.Awaits.TheVariants.{Everything}
-use Rattle.weed_base.proofs.AwaitingLemmas.{still_set, named_set, covers_all, on_ok}
+use Rattle.weed_base.proofs.AwaitingLemmas.{still_set, named_set, covers_all}
 use Rattle.weed_base.proofs.real.kept.KeptFiles.cut.Goals as goal
 
 pub returns-clause-marked : goal.returns-clause-marked
@@ -8,8 +10,7 @@ returns-clause-marked g c = λ name named.
     named_set (λ kept. Covers kept.awaits Everything) _ _ c.index_mut.result.now c.cut.new.self name named c.index_mut.ensures.value c.cut.ensures.name (rw c.cut.ensures.marked tt)
 
 pub returns-clause-cut : goal.returns-clause-cut
-returns-clause-cut g c = λ name named.
-    on_ok _ (λ answered. named_set (λ kept. g.F.SystemFile.answered (CutTo c.args.to) kept.file) _ _ c.index_mut.result.now c.cut.new.self name named c.index_mut.ensures.value c.cut.ensures.name (rw c.cut.ensures.file answered)) c.cut.ensures.cut
+returns-clause-cut g c = λ file at. subst (λ (asked : g.row.F.Denot). OnOk c.cut.result (g.F.SystemFile.answered (CutTo c.args.to) asked)) (ap (λ kept. kept.file) c.index_mut.ensures.value ∙ at c.index_mut.result.now) c.cut.ensures.cut
 
 pub returns-clause-still : goal.returns-clause-still
 returns-clause-still g c = still_set _ _ c.index_mut.result.now c.cut.new.self c.requires c.index_mut.ensures.value c.cut.ensures.name (rw c.cut.ensures.marked (covers_all _))

@@ -1,0 +1,64 @@
+-- What an attached directory keeps along its calls, and which file they are of.
+use Rattle.std.proofs.Common.{◌≡◌, ℕ, zero, suc, ◌<◌, List, [], ◌∷◌, length, get_or, Option, Some, Result, Ok, Err, OnOk, IfOk, MatchOption, true, sym, ap, ◌∙◌, inl, subst, refl, arith}
+use Rattle.std.specs.List.{position}
+use Rattle.std.specs.Str.{bytes_eq}
+use Rattle.weed_base.specs.System.{PathCall}
+use Rattle.weed_base.specs.Awaiting.{IsNamedAt, IsFileAt, StillAwaits}
+use Rattle.weed_base.specs.Folder.{IsOpenFile, IsOpenAt, KeepsAwaiting}
+use Rattle.weed_base.specs.declared.real.kept.KeptFile.{KeptFile}
+use Rattle.weed_base.specs.declared.real.kept.KeptFiles.{KeptFiles}
+use Rattle.weed_base.specs.declared.real.folder.Folder.{Folder}
+use Rattle.weed_base.proofs.AwaitingLemmas.{named_at_position}
+
+pub keeps_along : {R F : Type 0} {first middle last : Folder R F} → KeepsAwaiting first middle → KeepsAwaiting middle last → KeepsAwaiting first last
+keeps_along one two = record {
+  same = record { system = two.same.system ∙ one.same.system; path = two.same.path ∙ one.same.path; directory = two.same.directory ∙ one.same.directory };
+  files = λ name mark something found. two.files name mark something (one.files name mark something found);
+  names = λ was. two.names (one.names was);
+}
+
+-- a change of the open files alone
+pub keeps_by : {R F : Type 0} (folder : Folder R F) (kept : KeptFiles F) → StillAwaits folder.kept.files.items kept.files.items → (folder.kept.names_await ≡ true → kept.names_await ≡ true) → kept.directory ≡ folder.kept.directory → KeepsAwaiting folder (record folder { kept = kept })
+keeps_by folder kept files names directory = record { same = record { system = refl; path = refl; directory = directory }; files = files; names = names }
+
+-- a place in a list has one item
+get_or_same : {X : Type 0} (items : List X) (place : ℕ) (one other : X) → place < length items → get_or items place one ≡ get_or items place other
+get_or_same [] place one other within = absurd (omega (arith, within))
+get_or_same (x ∷ xs) zero one other within = refl
+get_or_same (x ∷ xs) (suc place) one other within = get_or_same xs place one other (omega (arith, within))
+
+some_open : {F : Type 0} (answered : PathCall F → Type 0) (path name : List ℕ) (files : List (KeptFile F)) (place : ℕ) (some : KeptFile F) → IsNamedAt name place files → IsOpenAt answered path name files files place
+some_open answered path name files place some named =
+    let kept = get_or files place some in
+    (kept.file, λ d. ap (λ it. it.file) (get_or_same files place d some named.0), inl (place, kept, named.0, get_or_same files place kept some named.0, (named.1 some, refl)))
+
+-- the first file of a name stands open
+pub stands_open : {F : Type 0} (answered : PathCall F → Type 0) (path name : List ℕ) (files : List (KeptFile F)) (place : ℕ) → position (λ kept. bytes_eq kept.name name) files ≡ Some place → IsOpenAt answered path name files files place
+stands_open answered path name [] place is = absurd (cc is)
+stands_open answered path name (some ∷ files) place is = some_open answered path name (some ∷ files) place some (named_at_position (some ∷ files) name place is)
+
+-- what holds where something was found
+pub at_found : (Q : Type 0) (P : ℕ → Type 0) (found : Option ℕ) (place : ℕ) → found ≡ Some place → MatchOption found Q P → P place
+at_found Q P found place is holds = subst (λ (it : Option ℕ). MatchOption it Q P) is holds
+
+-- a call that answered Ok at a place did so of the open file
+pub of_placed : {F T E : Type 0} (answered : PathCall F → Type 0) (path name : List ℕ) (before after : List (KeptFile F)) (place : ℕ) (result : Result T E) (P : F → Type 0) → IsOpenAt answered path name before after place → ((file : F) → IsFileAt place after file → OnOk result (P file)) → OnOk result ((file : F) × IsOpenFile answered path name before file × P file)
+of_placed answered path name before after place (Ok value) P (file, stands, asked) then = (file, asked, then file stands)
+of_placed answered path name before after place (Err error) P found then = tt
+
+one_file : {F : Type 0} (files : List (KeptFile F)) (place : ℕ) (one other : F) → place < length files → IsFileAt place files one → IsFileAt place files other → one ≡ other
+one_file [] place one other within first second = absurd (omega (arith, within))
+one_file (some ∷ files) place one other within first second = sym (first some) ∙ second some
+
+-- what holds of the file at a place holds of the open file
+pub of_found : {F : Type 0} (answered : PathCall F → Type 0) (path name : List ℕ) (before after : List (KeptFile F)) (place : ℕ) (P : F → Type 0) (file : F) → place < length after → IsFileAt place after file → IsOpenAt answered path name before after place → P file → (asked : F) × IsOpenFile answered path name before asked × P asked
+of_found answered path name before after place P file within at (asked, stands, found) holds = (asked, found, subst P (one_file after place file asked within at stands) holds)
+
+-- what follows of a value that was answered
+pub if_ok : {T E : Type 0} {P Q : T → Type 0} (result : Result T E) → ((value : T) → P value → Q value) → IfOk result P → IfOk result Q
+if_ok (Ok value) then holds = then value holds
+if_ok (Err error) then holds = tt
+
+-- the item at a place, whatever stands past the end
+pub get_or_is : (items : List (List ℕ)) (place k : ℕ) (item d : List ℕ) → place < length items → k ≡ place → item ≡ get_or items place item → item ≡ get_or items k d
+get_or_is items place k item d within here is = is ∙ get_or_same items place item d within ∙ ap (λ it. get_or items it d) (sym here)

@@ -1,0 +1,96 @@
+-- What the calls of an attached directory ask of the system, and what they keep.
+use Rattle.std.specs.Prelude.{◌≡◌, ◌≢◌, ◌⊎◌, ℕ, true, false, List, string_bytes}
+use Rattle.std.specs.Cmp.Lexicographic.{slice_cmp}
+use Rattle.std.specs.Ordering.{nat_cmp}
+use Rattle.std.specs.List.{Any, All}
+use Rattle.std.specs.List.Sorted.{IsSorted, IsPermutation}
+use Rattle.weed_base.specs.System.{FileCall, CutTo, SettledAll, PathCall, MadeDirectory, Opened, Missed, Made, Removed, Renamed, Listed, path_in, directory_above}
+use Rattle.weed_base.specs.Awaiting.{Awaiting, IsFileAt, StillAwaits, AwaitsNothing, EachPair, FallsByAnswer, without, AreRenamed}
+use Rattle.weed_base.specs.declared.real.kept.Awaits.TheVariants.{Everything}
+use Rattle.weed_base.specs.declared.real.kept.KeptFile.{KeptFile}
+use Rattle.weed_base.specs.declared.real.folder.Folder.{Folder}
+
+-- The file stood open under that name, or it was opened now, at that path.
+abbrev pub IsOpenFile : {F : Type 0} → (PathCall F → Type 0) → List ℕ → List ℕ → List (KeptFile F) → F → Type 0
+IsOpenFile answered path name files file = Any (λ kept. (kept.name ≡ name) × (kept.file ≡ file)) files ⊎ answered (Opened path file)
+
+-- At that place is such a file.
+abbrev pub IsOpenAt : {F : Type 0} → (PathCall F → Type 0) → List ℕ → List ℕ → List (KeptFile F) → List (KeptFile F) → ℕ → Type 0
+IsOpenAt {F} answered path name before after place = (file : F) × IsFileAt place after file × IsOpenFile answered path name before file
+
+-- The path of that name in the directory
+abbrev pub path_of : {R F : Type 0} → Folder R F → List ℕ → List ℕ
+path_of folder name = path_in (string_bytes folder.path) name
+
+-- An open file of that name in the directory is so.
+abbrev pub OfFile : {R F : Type 0} → (PathCall F → R → Type 0) → (F → Type 0) → List ℕ → Folder R F → Type 0
+OfFile {R} {F} answered P name folder =
+    (file : F) × IsOpenFile (λ call. answered call folder.system) (path_of folder name) name folder.kept.files.items file × P file
+
+-- The same, or no file of that name is there, and that is so.
+abbrev pub OfFileOr : {R F : Type 0} → (PathCall F → R → Type 0) → Type 0 → (F → Type 0) → List ℕ → Folder R F → Type 0
+OfFileOr answered Q P name folder = OfFile answered P name folder ⊎ (answered (Missed (path_of folder name)) folder.system × Q)
+
+-- What lies at that path was opened, and settled whole.
+abbrev pub IsSettledAt : {F : Type 0} → (PathCall F → Type 0) → (FileCall → F → Type 0) → List ℕ → Type 0
+IsSettledAt {F} by_path by_file path = (file : F) × by_path (Opened path file) × by_file SettledAll file
+
+-- These are the names that were listed in the directory, in byte order.
+abbrev pub IsListing : {R F : Type 0} → (PathCall F → R → Type 0) → List (List ℕ) → Folder R F → Type 0
+IsListing answered names folder =
+    (listed : List (List ℕ)) × answered (Listed (string_bytes folder.path) listed) folder.system × IsPermutation listed names × IsSorted (slice_cmp nat_cmp) names
+
+-- The directory is the same one.
+pub record IsSameFolder {R F : Type 0} (before after : Folder R F) : Type 0 where
+  pub system : after.system ≡ before.system
+  pub path : after.path ≡ before.path
+  pub directory : after.kept.directory ≡ before.kept.directory
+
+-- The same, and what its files and names await is kept.
+pub record KeepsAwaiting {R F : Type 0} (before after : Folder R F) : Type 0 where
+  pub same : IsSameFolder before after
+  pub files : StillAwaits before.kept.files.items after.kept.files.items
+  pub names : before.kept.names_await ≡ true → after.kept.names_await ≡ true
+
+-- Nothing of the directory awaits a sync.
+abbrev pub IsSettledWhole : {R F : Type 0} → Folder R F → Type 0
+IsSettledWhole folder = All AwaitsNothing folder.kept.files.items × (folder.kept.names_await ≡ false)
+
+-- A directory was opened: it was made where it wasn't there, and it, its files and the one above it were settled.
+pub record IsOpened {R F : Type 0} (by_path : PathCall F → R → Type 0) (by_file : FileCall → F → Type 0) (place : List ℕ) (folder : Folder R F) : Type 0 where
+  pub path : string_bytes folder.path ≡ place
+  pub made : by_path (MadeDirectory place) folder.system
+  pub above : IsSettledAt (λ call. by_path call folder.system) by_file (directory_above place)
+  pub directory : by_path (Opened place folder.kept.directory) folder.system
+  pub names : by_file SettledAll folder.kept.directory
+  pub files : (listed : List (List ℕ)) × by_path (Listed place listed) folder.system × All (λ name. IsSettledAt (λ call. by_path call folder.system) by_file (path_in place name)) listed
+  pub settled : IsSettledWhole folder
+
+-- A file was made, and the names await a sync, or one that was there was emptied; it awaits a sync of everything.
+pub record HasMade {R F : Type 0} (by_path : PathCall F → R → Type 0) (by_file : FileCall → F → Type 0) (name : List ℕ) (before after : Folder R F) : Type 0 where
+  pub made : OfFile by_path (by_file (CutTo 0)) name before
+      ⊎ (((file : F) × by_path (Made (path_of before name) file) before.system) × (after.kept.names_await ≡ true))
+  pub marked : Awaiting name Everything after.kept.files.items
+
+-- A file was removed.
+pub record HasRemoved {R F : Type 0} (answered : PathCall F → R → Type 0) (name : List ℕ) (before after : Folder R F) : Type 0 where
+  pub call : answered (Removed (path_of before name)) before.system
+  pub files : after.kept.files.items ≡ without name before.kept.files.items
+  pub names : after.kept.names_await ≡ true
+
+-- A file was renamed.
+pub record HasRenamed {R F : Type 0} (answered : PathCall F → R → Type 0) (from to : List ℕ) (before after : Folder R F) : Type 0 where
+  pub call : answered (Renamed (path_of before from) (path_of before to)) before.system
+  pub equal : from ≡ to → after.kept.files.items ≡ before.kept.files.items
+  pub moved : from ≢ to → AreRenamed from to before.kept.files.items after.kept.files.items
+  pub names : after.kept.names_await ≡ true
+
+-- Names may have changed, and await a sync; the files are the same.
+pub record MayHaveChanged {R F : Type 0} (before after : Folder R F) : Type 0 where
+  pub files : after.kept.files.items ≡ before.kept.files.items
+  pub names : after.kept.names_await ≡ true
+
+-- What awaited a sync fell by an answer of one alone.
+pub record Settles {R F : Type 0} (answered : FileCall → F → Type 0) (before after : Folder R F) : Type 0 where
+  pub files : EachPair (FallsByAnswer answered) before.kept.files.items after.kept.files.items
+  pub names : (after.kept.names_await ≡ before.kept.names_await) ⊎ ((after.kept.names_await ≡ false) × answered SettledAll before.kept.directory)

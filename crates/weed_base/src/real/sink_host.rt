@@ -1,0 +1,127 @@
+ghost use Rattle.std.specs.Prelude.{◌≡◌, None, false, refl};
+ghost use Rattle.std.proofs.lemmas.Bool.{false≢true};
+
+use crate::bytes::Word;
+use crate::disk::{Disk, Host, NamesFault};
+use crate::file_name::FileName;
+use crate::items::Items;
+use crate::sink::Sink;
+use crate::source::Failed;
+use std::alloc::Global;
+
+/// A disk that has files of any name.
+pub trait WholeDisk: Disk {
+    /// It hasn't marks alone.
+    ghost whole: { Self.MARKS_ONLY ≡ false };
+}
+
+/// A host of a disk and a sink. Each send is one write of the sink. Of what was sent it tells nothing.
+#[derive(Drop)]
+pub struct SinkHost<D, K> {
+    disk: D,
+    output: K,
+}
+
+impl<D, K> SinkHost<D, K> {
+    pub fn new(disk: D, output: K) -> SinkHost<D, K>
+        ensures { result ≡ record { disk = disk; output = output } }
+    {
+        SinkHost { disk, output }
+    }
+
+    /// Its disk.
+    pub fn disk(&self) -> &D
+        ensures { result.now ≡ self.now.disk }
+    {
+        &self.disk
+    }
+
+    /// What it sends to.
+    pub fn output(&self) -> &K
+        ensures { result.now ≡ self.now.output }
+    {
+        &self.output
+    }
+}
+
+impl<D: WholeDisk, K: Sink> Disk for SinkHost<D, K> {
+    const MARKS_ONLY: bool = false;
+
+    ghost MARKS_ONLY = { false };
+
+    ghost files = { λ host. D.files host.disk };
+
+    ghost faults = { λ host. D.faults host.disk };
+
+    ghost sent = { λ _. None };
+
+    ghost send_faults = { λ host. K.faults host.output };
+
+    ghost attachment = { λ host. D.attachment host.disk };
+
+    ghost tick = { λ host. D.tick host.disk };
+
+    ghost images = { λ host. D.images host.disk };
+
+    ghost image_since = { λ host. D.image_since host.disk };
+
+    ghost counts_now = { λ host. D.counts_now host.disk };
+
+    ghost only_now = { λ host. D.only_now host.disk };
+
+    ghost reads_now = { λ host. D.reads_now host.disk };
+
+    ghost marks_only = { λ host read name told there marks. absurd (false≢true marks) };
+
+    fn tick(&self) -> u64 {
+        self.disk.tick()
+    }
+
+    fn attach(&mut self, place: Word) -> Result<(), Failed> {
+        self.disk.attach(place)
+    }
+
+    fn names(&mut self, alloc: Global) -> Result<Items<FileName>, NamesFault> {
+        self.disk.names(alloc)
+    }
+
+    fn size(&mut self, name: &FileName) -> Result<Option<u64>, Failed> {
+        self.disk.size(name)
+    }
+
+    fn read_at(&mut self, name: &FileName, at: u64, room: &mut [u8]) -> Result<usize, Failed> {
+        self.disk.read_at(name, at, room)
+    }
+
+    fn write_at(&mut self, name: &FileName, at: u64, piece: &[u8]) -> Result<(), Failed> {
+        self.disk.write_at(name, at, piece)
+    }
+
+    fn cut(&mut self, name: &FileName, to: u64) -> Result<(), Failed> {
+        self.disk.cut(name, to)
+    }
+
+    fn make(&mut self, name: &FileName) -> Result<(), Failed> {
+        self.disk.make(name)
+    }
+
+    fn remove(&mut self, name: &FileName) -> Result<(), Failed> {
+        self.disk.remove(name)
+    }
+
+    fn rename(&mut self, from: &FileName, to: &FileName) -> Result<(), Failed> {
+        self.disk.rename(from, to)
+    }
+
+    fn sync(&mut self) -> Result<(), Failed> {
+        self.disk.sync()
+    }
+}
+
+impl<D: WholeDisk, K: Sink> Host for SinkHost<D, K> {
+    fn send(&mut self, piece: &[u8]) -> Result<usize, Failed> {
+        self.output.write(piece)
+    }
+
+    ghost whole = { refl };
+}

@@ -1,0 +1,169 @@
+//! The system's files. Each body for them is a call of std: no contract can see what it did. That it was made, with
+//! what, and answered Ok, the code above has from these calls alone.
+ghost use Rattle.std.specs.Prelude.{◌≡◌, ◌≤◌, ◌<◌, ◌^◌, ℕ, List, ⊤, length, Option, None, IfOk, IfSome, OnOk, MatchOption};
+ghost use Rattle.weed_base.specs.Files.{ReadsSome};
+ghost use Rattle.weed_base.specs.System.{FileCall, Wrote, CutTo, SettledData, SettledAll, PathCall, MadeDirectory, Opened, Missed, Made, Removed, Renamed, Listed};
+
+use crate::file_name::FileName;
+use std::alloc::{AllocGlobal, Global};
+use std::fs::{File, OpenFile, OpenOptions};
+use std::os::unix::fs::FileExt;
+use std::rt::Files;
+use std::{fs, io};
+
+/// A file of the system, or a directory.
+pub trait SystemFile {
+    /// That call of it answered Ok.
+    ghost answered: { FileCall → Self → Type 0 };
+
+    /// Its bytes, where told: of a file that is only read.
+    ghost bytes: { Self → Option (List ℕ) };
+
+    /// None has 2^63 bytes.
+    ghost short: { (file : Self) → IfSome (bytes file) (λ told. length told < 2 ^ 63) };
+
+    /// Its length in bytes.
+    fn size(&self) -> io::Result<u64>
+        ensures { IfOk result (λ size. IfSome (bytes self.now) (λ told. size ≡ length told)) };
+
+    /// Puts bytes from `at` on into the front of `room`, and answers how many: none only at the end, or for no
+    /// room.
+    fn read_some(&self, at: u64, room: &mut [u8]) -> io::Result<usize>
+        ensures bound { IfOk result (λ count. count ≤ length room.new) }
+        ensures read { IfOk result (λ count. IfSome (bytes self.now) (λ told. ReadsSome told at count room.new)) };
+
+    /// Writes all of the piece.
+    fn write_piece(&self, at: u64, piece: &[u8]) -> io::Result<()>
+        ensures { OnOk result (answered (Wrote at piece.now) self.now) };
+
+    fn cut(&self, to: u64) -> io::Result<()>
+        ensures { OnOk result (answered (CutTo to) self.now) };
+
+    /// Settles the bytes, and the length.
+    fn settle_data(&self) -> io::Result<()>
+        ensures { OnOk result (answered SettledData self.now) };
+
+    /// Settles all of the file, and of a directory the names.
+    fn settle_all(&self) -> io::Result<()>
+        ensures { OnOk result (answered SettledAll self.now) };
+}
+
+impl SystemFile for File {
+    ghost answered = { λ _ _. ⊤ };
+
+    ghost bytes = { λ _. None };
+
+    ghost short = { λ _. tt };
+
+    fn size(&self) -> io::Result<u64> {
+        Ok(self.metadata()?.len())
+    }
+
+    fn read_some(&self, at: u64, room: &mut [u8]) -> io::Result<usize> {
+        self.read_at(room, at)
+    }
+
+    fn write_piece(&self, at: u64, piece: &[u8]) -> io::Result<()> {
+        self.write_all_at(piece, at)
+    }
+
+    fn cut(&self, to: u64) -> io::Result<()> {
+        self.set_len(to)
+    }
+
+    fn settle_data(&self) -> io::Result<()> {
+        self.sync_data()
+    }
+
+    fn settle_all(&self) -> io::Result<()> {
+        self.sync_all()
+    }
+}
+
+/// The system's calls by paths.
+pub trait System {
+    type File: SystemFile + Drop;
+
+    /// That call of it answered so.
+    ghost answered: { PathCall Self.File → Self → Type 0 };
+
+    /// Makes a directory where nothing is there.
+    fn make_directory(&self, path: &str) -> io::Result<()>
+        ensures { OnOk result (answered (MadeDirectory path.now) self.now) };
+
+    /// Opens a directory or a file to be settled.
+    fn open(&self, path: &str) -> io::Result<Self::File>
+        ensures { IfOk result (λ file. answered (Opened path.now file) self.now) };
+
+    /// Opens a file to be read and written; `None` where nothing is there.
+    fn open_existing(&self, path: &str) -> io::Result<Option<Self::File>>
+        ensures { IfOk result (λ found. MatchOption found (answered (Missed path.now) self.now) (λ file. answered (Opened path.now file) self.now)) };
+
+    /// Makes a file that isn't there.
+    fn make_file(&self, path: &str) -> io::Result<Self::File>
+        ensures { IfOk result (λ file. answered (Made path.now file) self.now) };
+
+    /// Removes a file, where it is there.
+    fn remove_file(&self, path: &str) -> io::Result<()>
+        ensures { OnOk result (answered (Removed path.now) self.now) };
+
+    fn rename_file(&self, from: &str, to: &str) -> io::Result<()>
+        ensures { OnOk result (answered (Renamed from.now to.now) self.now) };
+
+    /// The names of files in a directory, in any order. Other names are left out.
+    fn list(&self, alloc: Global, path: &str) -> io::Result<Vec<FileName>>
+        ensures { IfOk result (λ names. answered (Listed path.now names.items) self.now) };
+}
+
+impl<R: Files<File = File> + AllocGlobal + Clone + Drop> System for R {
+    type File = File;
+
+    ghost answered = { λ _ _. ⊤ };
+
+    fn make_directory(&self, path: &str) -> io::Result<()> {
+        match fs::create_dir(self, path) {
+            Err(error) if error.kind() != io::ErrorKind::AlreadyExists => Err(error),
+            _ => Ok(()),
+        }
+    }
+
+    fn open(&self, path: &str) -> io::Result<File> {
+        File::open(self, path)
+    }
+
+    fn open_existing(&self, path: &str) -> io::Result<Option<File>> {
+        match OpenOptions::new().read(true).write(true).open(self, path) {
+            Ok(file) => Ok(Some(file)),
+            Err(error) if error.kind() == io::ErrorKind::NotFound => Ok(None),
+            Err(error) => Err(error),
+        }
+    }
+
+    fn make_file(&self, path: &str) -> io::Result<File> {
+        File::create_new(self, path)
+    }
+
+    fn remove_file(&self, path: &str) -> io::Result<()> {
+        match fs::remove_file(self, path) {
+            Err(error) if error.kind() != io::ErrorKind::NotFound => Err(error),
+            _ => Ok(()),
+        }
+    }
+
+    fn rename_file(&self, from: &str, to: &str) -> io::Result<()> {
+        fs::rename(self, from, to)
+    }
+
+    fn list(&self, alloc: Global, path: &str) -> io::Result<Vec<FileName>> {
+        let mut names = Vec::new(alloc);
+        for entry in fs::read_dir(self, path)? {
+            let entry = entry?;
+            if let Some(name) = FileName::new(entry.file_name().as_bytes())
+                && entry.file_type()?.is_file()
+            {
+                names.push(name)?;
+            }
+        }
+        Ok(names)
+    }
+}
