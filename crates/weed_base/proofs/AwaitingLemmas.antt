@@ -154,3 +154,44 @@ nothing_set {F} now i new within before none k d below =
       | inl here ↦ subst (λ (y : KeptFile F). AwaitsNothing y) (sym (get_or-set_at now i k new d here within)) none
       | inr other ↦ subst (λ (y : KeptFile F). AwaitsNothing y) (sym (get_or-set_other now i k new d other)) (before k d (below_other k i below other))
     ]
+
+-- one of a list is its first, or among the others
+first_or_later : {X : Type 0} (P : X → Type 0) (first : X) (others : List X) → Any P (first ∷ others) → P first ⊎ Any P others
+first_or_later P first others (zero, x, below, is, holds) = inl (subst P (sym is) holds)
+first_or_later P first others (suc k, x, below, is, holds) = inr (k, x, omega (arith, below), is, holds)
+
+any_first : {X : Type 0} (P : X → Type 0) (first : X) (others : List X) → P first → Any P (first ∷ others)
+any_first P first others holds = (0, first, grind (arith, common_steps), refl, holds)
+
+any_later : {X : Type 0} (P : X → Type 0) (first : X) (others : List X) → Any P others → Any P (first ∷ others)
+any_later P first others (k, x, below, is, holds) = (suc k, x, omega (arith, below), is, holds)
+
+-- what passed a test was there
+pub filter_any : {X : Type 0} (P : X → Type 0) (test : X → Bool) (xs : List X) → Any P (filter test xs) → Any P xs
+filter_any P test [] (k, x, below, is, holds) = absurd (omega (arith, below))
+filter_any {X} P test (y ∷ ys) found =
+    let was : Any P (filter test ys) → Any P (y ∷ ys) = λ later. any_later P y ys (filter_any P test ys later) in
+    let all : (b : Bool) → Any P (cond b (y ∷ filter test ys) (filter test ys)) → Any P (y ∷ ys) =
+    λ b. elim b as (λ b. Any P (cond b (y ∷ filter test ys) (filter test ys)) → Any P (y ∷ ys)) [
+      | true ↦ λ some. elim (first_or_later P y (filter test ys) some) [ inl first ↦ any_first P y ys first | inr later ↦ was later ]
+      | false ↦ was
+    ] in all (test y) found
+
+-- one of a list with one more was there, or it is that one
+pub push_any : {X : Type 0} (P : X → Type 0) (xs : List X) (last : X) → Any P (xs ++ last ∷ []) → Any P xs ⊎ P last
+push_any P [] last found = elim (first_or_later P last [] found) [ inl first ↦ inr first | inr (k, x, below, is, holds) ↦ absurd (omega (arith, below)) ]
+push_any P (x ∷ xs) last found =
+    elim (first_or_later P x (xs ++ last ∷ []) found) [
+      | inl first ↦ inl (any_first P x xs first)
+      | inr later ↦ elim (push_any P xs last later) [ inl there ↦ inl (any_later P x xs there) | inr new ↦ inr new ]
+    ]
+
+-- one of a list with another item at a place was there, where the item before it there is so too
+pub set_any : {X : Type 0} (P : X → Type 0) (xs : List X) (place : ℕ) (before new : X) → place < length xs → before ≡ get_or xs place before → (P new → P before) → Any P (set xs place new) → Any P xs
+set_any P xs place before new within was back (k, x, below, is, holds) =
+    elim (same_or_other k place) [
+      | inl here ↦
+          let stands : new ≡ x = sym (get_or-set_at xs place k new x here within) ∙ is in
+          (place, before, within, sym was, back (subst P (sym stands) holds))
+      | inr other ↦ (k, x, subst (λ n. k < n) (length-set xs place new) below, sym (get_or-set_other xs place k new x other) ∙ is, holds)
+    ]

@@ -1,25 +1,42 @@
 -- What an attached directory keeps along its calls, and which file they are of.
-use Rattle.std.proofs.Common.{◌≡◌, ℕ, zero, suc, ◌<◌, List, [], ◌∷◌, length, get_or, Option, Some, Result, Ok, Err, OnOk, IfOk, MatchOption, true, sym, ap, ◌∙◌, inl, subst, refl, arith}
+use Rattle.std.proofs.Common.{◌≡◌, ◌⊎◌, ℕ, zero, suc, ◌<◌, List, [], ◌∷◌, length, get_or, string_bytes, Option, Some, Result, Ok, Err, OnOk, IfOk, MatchOption, true, sym, ap, ◌∙◌, inl, inr, subst, refl, arith}
 use Rattle.std.specs.List.{position}
 use Rattle.std.specs.Str.{bytes_eq}
-use Rattle.weed_base.specs.System.{PathCall}
-use Rattle.weed_base.specs.Awaiting.{IsNamedAt, IsFileAt, StillAwaits}
-use Rattle.weed_base.specs.Folder.{IsOpenFile, IsOpenAt, KeepsAwaiting}
+use Rattle.weed_base.specs.System.{PathCall, Opened, Made, path_in}
+use Rattle.weed_base.specs.Awaiting.{IsNamedAt, IsFileAt, IsOpenAs, OpensNone, StillAwaits}
+use Rattle.weed_base.specs.Folder.{IsOpenFile, IsOpenAt, IsSameFolder, OpensByName, KeepsAwaiting, path_of}
 use Rattle.weed_base.specs.declared.real.kept.KeptFile.{KeptFile}
 use Rattle.weed_base.specs.declared.real.kept.KeptFiles.{KeptFiles}
 use Rattle.weed_base.specs.declared.real.folder.Folder.{Folder}
 use Rattle.weed_base.proofs.AwaitingLemmas.{named_at_position}
 
-pub keeps_along : {R F : Type 0} {first middle last : Folder R F} → KeepsAwaiting first middle → KeepsAwaiting middle last → KeepsAwaiting first last
-keeps_along one two = record {
+-- the path of a name stays where the directory does
+path_same : {R F : Type 0} {before after : Folder R F} → IsSameFolder before after → (name : List ℕ) → path_of after name ≡ path_of before name
+path_same same name = ap (λ path. path_in (string_bytes path) name) same.path
+
+opens_along : {R F : Type 0} (answered : PathCall F → R → Type 0) (first middle last : Folder R F) → IsSameFolder first middle → OpensByName answered first middle → OpensByName answered middle last → OpensByName answered first last
+opens_along answered first middle last same one two name file found =
+    elim (two name file found) [
+      | inl (inl was) ↦ one name file was
+      | inl (inr opened) ↦ inl (inr (subst (λ system. answered (Opened (path_of first name) file) system) same.system (subst (λ path. answered (Opened path file) middle.system) (path_same same name) opened)))
+      | inr made ↦ inr (subst (λ system. answered (Made (path_of first name) file) system) same.system (subst (λ path. answered (Made path file) middle.system) (path_same same name) made))
+    ]
+
+pub keeps_along : {R F : Type 0} (answered : PathCall F → R → Type 0) {first middle last : Folder R F} → KeepsAwaiting answered first middle → KeepsAwaiting answered middle last → KeepsAwaiting answered first last
+keeps_along answered {first} {middle} {last} one two = record {
   same = record { system = two.same.system ∙ one.same.system; path = two.same.path ∙ one.same.path; directory = two.same.directory ∙ one.same.directory };
+  opens = opens_along answered first middle last one.same one.opens two.opens;
   files = λ name mark something found. two.files name mark something (one.files name mark something found);
   names = λ was. two.names (one.names was);
 }
 
 -- a change of the open files alone
-pub keeps_by : {R F : Type 0} (folder : Folder R F) (kept : KeptFiles F) → StillAwaits folder.kept.files.items kept.files.items → (folder.kept.names_await ≡ true → kept.names_await ≡ true) → kept.directory ≡ folder.kept.directory → KeepsAwaiting folder (record folder { kept = kept })
-keeps_by folder kept files names directory = record { same = record { system = refl; path = refl; directory = directory }; files = files; names = names }
+pub keeps_by : {R F : Type 0} (answered : PathCall F → R → Type 0) (folder : Folder R F) (kept : KeptFiles F) → OpensByName answered folder (record folder { kept = kept }) → StillAwaits folder.kept.files.items kept.files.items → (folder.kept.names_await ≡ true → kept.names_await ≡ true) → kept.directory ≡ folder.kept.directory → KeepsAwaiting answered folder (record folder { kept = kept })
+keeps_by answered folder kept opens files names directory = record { same = record { system = refl; path = refl; directory = directory }; opens = opens; files = files; names = names }
+
+-- a call that opens none
+pub opens_none : {R F : Type 0} (answered : PathCall F → R → Type 0) (folder : Folder R F) (kept : KeptFiles F) → OpensNone folder.kept.files.items kept.files.items → OpensByName answered folder (record folder { kept = kept })
+opens_none answered folder kept none name file found = inl (inl (none name file found))
 
 -- a place in a list has one item
 get_or_same : {X : Type 0} (items : List X) (place : ℕ) (one other : X) → place < length items → get_or items place one ≡ get_or items place other
@@ -62,3 +79,15 @@ if_ok (Err error) then holds = tt
 -- the item at a place, whatever stands past the end
 pub get_or_is : (items : List (List ℕ)) (place k : ℕ) (item d : List ℕ) → place < length items → k ≡ place → item ≡ get_or items place item → item ≡ get_or items k d
 get_or_is items place k item d within here is = is ∙ get_or_same items place item d within ∙ ap (λ it. get_or items it d) (sym here)
+
+-- one more is open, which was made or opened at the path of its name
+pub opens_one : {R F : Type 0} (answered : PathCall F → R → Type 0) (folder : Folder R F) (kept : KeptFiles F) (new : KeptFile F) → (answered (Opened (path_of folder new.name) new.file) folder.system ⊎ answered (Made (path_of folder new.name) new.file) folder.system) → ((name : List ℕ) (file : F) → IsOpenAs name file kept.files.items → IsOpenAs name file folder.kept.files.items ⊎ ((new.name ≡ name) × (new.file ≡ file))) → OpensByName answered folder (record folder { kept = kept })
+opens_one {F = F} answered folder kept new came only name file found =
+    elim (only name file found) [
+      | inl was ↦ inl (inl was)
+      | inr is ↦
+          elim came [
+            | inl opened ↦ inl (inr (subst (λ (it : F). answered (Opened (path_of folder name) it) folder.system) is.1 (subst (λ it. answered (Opened (path_of folder it) new.file) folder.system) is.0 opened)))
+            | inr made ↦ inr (subst (λ (it : F). answered (Made (path_of folder name) it) folder.system) is.1 (subst (λ it. answered (Made (path_of folder it) new.file) folder.system) is.0 made))
+          ]
+    ]

@@ -33,6 +33,14 @@ IsNamedAt {F} name place files = (place < length files) × ((d : KeptFile F) →
 abbrev pub IsFileAt : {F : Type 0} → ℕ → List (KeptFile F) → F → Type 0
 IsFileAt {F} place files file = (d : KeptFile F) → (slice_index_or files place d).file ≡ file
 
+-- That file is open under that name.
+abbrev pub IsOpenAs : {F : Type 0} → List ℕ → F → List (KeptFile F) → Type 0
+IsOpenAs name file files = Any (λ kept. (kept.name ≡ name) × (kept.file ≡ file)) files
+
+-- None is open that wasn't.
+abbrev pub OpensNone : {F : Type 0} → List (KeptFile F) → List (KeptFile F) → Type 0
+OpensNone {F} old new = (name : List ℕ) (file : F) → IsOpenAs name file new → IsOpenAs name file old
+
 -- What a file awaited was asked of a sync of that kind, which answered Ok.
 abbrev pub IsSettledBy : {F : Type 0} → (FileCall → F → Type 0) → Awaits → F → Type 0
 IsSettledBy answered Nothing file = ⊤

@@ -2,17 +2,17 @@
 use Rattle.std.specs.Prelude.{◌≡◌, ◌≢◌, ◌⊎◌, ℕ, true, false, List, string_bytes}
 use Rattle.std.specs.Cmp.Lexicographic.{slice_cmp}
 use Rattle.std.specs.Ordering.{nat_cmp}
-use Rattle.std.specs.List.{Any, All}
+use Rattle.std.specs.List.{All}
 use Rattle.std.specs.List.Sorted.{IsSorted, IsPermutation}
 use Rattle.weed_base.specs.System.{FileCall, CutTo, SettledAll, PathCall, MadeDirectory, Opened, Missed, Made, Removed, Renamed, Listed, path_in, directory_above}
-use Rattle.weed_base.specs.Awaiting.{Awaiting, IsFileAt, StillAwaits, AwaitsNothing, EachPair, FallsByAnswer, without, AreRenamed}
+use Rattle.weed_base.specs.Awaiting.{Awaiting, IsOpenAs, IsFileAt, StillAwaits, AwaitsNothing, EachPair, FallsByAnswer, without, AreRenamed}
 use Rattle.weed_base.specs.declared.real.kept.Awaits.TheVariants.{Everything}
 use Rattle.weed_base.specs.declared.real.kept.KeptFile.{KeptFile}
 use Rattle.weed_base.specs.declared.real.folder.Folder.{Folder}
 
 -- The file stood open under that name, or it was opened now, at that path.
 abbrev pub IsOpenFile : {F : Type 0} → (PathCall F → Type 0) → List ℕ → List ℕ → List (KeptFile F) → F → Type 0
-IsOpenFile answered path name files file = Any (λ kept. (kept.name ≡ name) × (kept.file ≡ file)) files ⊎ answered (Opened path file)
+IsOpenFile answered path name files file = IsOpenAs name file files ⊎ answered (Opened path file)
 
 -- At that place is such a file.
 abbrev pub IsOpenAt : {F : Type 0} → (PathCall F → Type 0) → List ℕ → List ℕ → List (KeptFile F) → List (KeptFile F) → ℕ → Type 0
@@ -46,9 +46,16 @@ pub record IsSameFolder {R F : Type 0} (before after : Folder R F) : Type 0 wher
   pub path : after.path ≡ before.path
   pub directory : after.kept.directory ≡ before.kept.directory
 
--- The same, and what its files and names await is kept.
-pub record KeepsAwaiting {R F : Type 0} (before after : Folder R F) : Type 0 where
+-- Each file that is open was so before under that name, or was opened or made now, at the path of it.
+abbrev pub OpensByName : {R F : Type 0} → (PathCall F → R → Type 0) → Folder R F → Folder R F → Type 0
+OpensByName {F = F} answered before after =
+    (name : List ℕ) (file : F) → IsOpenAs name file after.kept.files.items
+    → IsOpenFile (λ call. answered call before.system) (path_of before name) name before.kept.files.items file ⊎ answered (Made (path_of before name) file) before.system
+
+-- The same directory, whose files are those of their names, and what they and the names await is kept.
+pub record KeepsAwaiting {R F : Type 0} (answered : PathCall F → R → Type 0) (before after : Folder R F) : Type 0 where
   pub same : IsSameFolder before after
+  pub opens : OpensByName answered before after
   pub files : StillAwaits before.kept.files.items after.kept.files.items
   pub names : before.kept.names_await ≡ true → after.kept.names_await ≡ true
 

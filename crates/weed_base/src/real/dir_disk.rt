@@ -200,7 +200,7 @@ impl<F: SystemFile + Drop, R: System<File = F> + AllocGlobal + Clone + Drop> Dis
         ensures breaks { StaysBroken self.old self.new result }
         ensures cause { HasCause self.old.counts.faults self.new.counts.faults result }
         ensures attachment { self.new.attachment ≡ self.old.attachment }
-        ensures keeps { Leaves KeepsAwaiting self.old self.new }
+        ensures keeps { Leaves (KeepsAwaiting R.answered) self.old self.new }
         ensures size { IfOk result (λ size. IsSomeAnd self.old.folder (λ folder. MatchOption size (R.answered (Missed (path_of folder name.now)) folder.system)
             (λ size. OfFile R.answered (λ file. IfSome (F.bytes file) (λ told. size ≡ length told)) name.now folder))) }
     {
@@ -218,7 +218,7 @@ impl<F: SystemFile + Drop, R: System<File = F> + AllocGlobal + Clone + Drop> Dis
         ensures breaks { StaysBroken self.old self.new result }
         ensures cause { HasCause self.old.counts.faults self.new.counts.faults result }
         ensures attachment { self.new.attachment ≡ self.old.attachment }
-        ensures keeps { Leaves KeepsAwaiting self.old self.new }
+        ensures keeps { Leaves (KeepsAwaiting R.answered) self.old self.new }
         ensures bound { IfOk result (λ count. count ≤ length room.new) }
         ensures read { IfOk result (λ count. IsSomeAnd self.old.folder
             (OfFileOr R.answered (count ≡ 0) (λ file. IfSome (F.bytes file) (λ told. ReadsAt told at count room.new)) name.now)) }
@@ -237,7 +237,7 @@ impl<F: SystemFile + Drop, R: System<File = F> + AllocGlobal + Clone + Drop> Dis
         ensures breaks { StaysBroken self.old self.new result }
         ensures cause { HasCause self.old.counts.faults self.new.counts.faults result }
         ensures attachment { self.new.attachment ≡ self.old.attachment }
-        ensures keeps { Leaves KeepsAwaiting self.old self.new }
+        ensures keeps { Leaves (KeepsAwaiting R.answered) self.old self.new }
         ensures bound { OnOk result (at + length piece.now < 2 ^ 63) }
         ensures written { OnOk result (BothAttached (λ before after. OfFile R.answered (F.answered (Wrote at piece.now)) name.now before
             × Awaiting name.now Data after.kept.files.items) self.old self.new) }
@@ -256,7 +256,7 @@ impl<F: SystemFile + Drop, R: System<File = F> + AllocGlobal + Clone + Drop> Dis
         ensures breaks { StaysBroken self.old self.new result }
         ensures cause { HasCause self.old.counts.faults self.new.counts.faults result }
         ensures attachment { self.new.attachment ≡ self.old.attachment }
-        ensures keeps { Leaves KeepsAwaiting self.old self.new }
+        ensures keeps { Leaves (KeepsAwaiting R.answered) self.old self.new }
         ensures cut { OnOk result (BothAttached (λ before after. OfFile R.answered (F.answered (CutTo to)) name.now before
             × Awaiting name.now Everything after.kept.files.items) self.old self.new) }
     {
@@ -274,7 +274,7 @@ impl<F: SystemFile + Drop, R: System<File = F> + AllocGlobal + Clone + Drop> Dis
         ensures breaks { StaysBroken self.old self.new result }
         ensures cause { HasCause self.old.counts.faults self.new.counts.faults result }
         ensures attachment { self.new.attachment ≡ self.old.attachment }
-        ensures keeps { Leaves KeepsAwaiting self.old self.new }
+        ensures keeps { Leaves (KeepsAwaiting R.answered) self.old self.new }
         ensures made { OnOk result (BothAttached (HasMade R.answered F.answered name.now) self.old self.new) }
     {
         self.counts.begin()?;

@@ -2,8 +2,8 @@
 ghost use Rattle.std.specs.Prelude.{◌≡◌, ◌≢◌, ◌≤◌, ◌<◌, ◌+◌, ◌^◌, ◌⊎◌, [], length, take, drop, true, false, string_bytes, IfOk, IfSome, OnOk, OnErr, MatchOption};
 ghost use Rattle.std.specs.List.{All};
 ghost use Rattle.weed_base.specs.Files.{ReadsAt, ReadsSome};
-ghost use Rattle.weed_base.specs.System.{Wrote, CutTo, MadeDirectory, Missed, Made, path_in, directory_above};
-ghost use Rattle.weed_base.specs.Awaiting.{Awaiting, IsNamedAt};
+ghost use Rattle.weed_base.specs.System.{Wrote, CutTo, MadeDirectory, Opened, Missed, Made, path_in, directory_above};
+ghost use Rattle.weed_base.specs.Awaiting.{Awaiting, IsNamedAt, IsFileAt};
 ghost use Rattle.weed_base.specs.Folder.{IsOpenAt, OfFile, OfFileOr, IsSettledAt, IsListing, IsOpened, IsSameFolder, KeepsAwaiting, HasMade, HasRemoved, HasRenamed, MayHaveChanged, Settles, IsSettledWhole, path_of};
 
 use crate::file_name::FileName;
@@ -142,12 +142,31 @@ impl<F: SystemFile + Drop, R: System<File = F> + AllocGlobal + Drop> Folder<R, F
         Ok(names)
     }
 
+    /// Notes that a name may be made or taken away.
+    fn note_names(&mut self)
+        ensures keeps { KeepsAwaiting R.answered self.old self.new }
+        ensures noted { MayHaveChanged self.old self.new }
+    {
+        self.kept.note_names();
+    }
+
+    /// Keeps a file that was opened or made at the path of its name, and answers its place.
+    fn keep(&mut self, name: &FileName, file: F, awaits: Awaits) -> io::Result<usize>
+        requires { R.answered (Opened (path_of self.old name.now) file) self.old.system ⊎ R.answered (Made (path_of self.old name.now) file) self.old.system }
+        ensures kept { IfOk result (λ place. IsNamedAt name.now place self.new.kept.files.items × IsFileAt place self.new.kept.files.items file) }
+        ensures marked { OnOk result (Awaiting name.now awaits self.new.kept.files.items) }
+        ensures keeps { KeepsAwaiting R.answered self.old self.new }
+        ensures names { self.new.kept.names_await ≡ self.old.kept.names_await }
+    {
+        self.kept.keep(KeptFile::new(name.copy(), file, awaits))
+    }
+
     /// The place of the open file of that name, where it is there.
     fn place_of(&mut self, name: &FileName) -> io::Result<Option<usize>>
         ensures place { IfOk result (λ found. IfSome found (λ place. IsNamedAt name.now place self.new.kept.files.items)) }
         ensures opened { IfOk result (λ found. MatchOption found (R.answered (Missed (path_of self.old name.now)) self.old.system)
             (IsOpenAt (λ call. R.answered call self.old.system) (path_of self.old name.now) name.now self.old.kept.files.items self.new.kept.files.items)) }
-        ensures keeps { KeepsAwaiting self.old self.new }
+        ensures keeps { KeepsAwaiting R.answered self.old self.new }
     {
         if let Some(place) = self.kept.place_of(name) {
             return Ok(Some(place));
@@ -156,15 +175,14 @@ impl<F: SystemFile + Drop, R: System<File = F> + AllocGlobal + Drop> Folder<R, F
         let Some(file) = self.system.open_existing(path.as_str())? else {
             return Ok(None);
         };
-        let opened = KeptFile::new(name.copy(), file, Awaits::Nothing);
-        Ok(Some(self.kept.keep(opened)?))
+        Ok(Some(self.keep(name, file, Awaits::Nothing)?))
     }
 
     /// A file's length in bytes, where it is there.
     pub(crate) fn size(&mut self, name: &FileName) -> io::Result<Option<u64>>
         ensures size { IfOk result (λ size. MatchOption size (R.answered (Missed (path_of self.old name.now)) self.old.system)
             (λ size. OfFile R.answered (λ file. IfSome (F.bytes file) (λ told. size ≡ length told)) name.now self.old)) }
-        ensures keeps { KeepsAwaiting self.old self.new }
+        ensures keeps { KeepsAwaiting R.answered self.old self.new }
     {
         match self.place_of(name)? {
             Some(place) => Ok(Some(self.kept.file(place).size()?)),
@@ -177,7 +195,7 @@ impl<F: SystemFile + Drop, R: System<File = F> + AllocGlobal + Drop> Folder<R, F
     pub(crate) fn read_at(&mut self, name: &FileName, at: u64, room: &mut [u8]) -> io::Result<usize>
         ensures bound { IfOk result (λ count. count ≤ length room.new) }
         ensures read { IfOk result (λ count. OfFileOr R.answered (count ≡ 0) (λ file. IfSome (F.bytes file) (λ told. ReadsAt told at count room.new)) name.now self.old) }
-        ensures keeps { KeepsAwaiting self.old self.new }
+        ensures keeps { KeepsAwaiting R.answered self.old self.new }
     {
         match self.place_of(name)? {
             Some(place) => read_full(self.kept.file(place), at, room),
@@ -190,7 +208,7 @@ impl<F: SystemFile + Drop, R: System<File = F> + AllocGlobal + Drop> Folder<R, F
         ensures written { OnOk result (OfFile R.answered (F.answered (Wrote at piece.now)) name.now self.old) }
         ensures marked { OnOk result (Awaiting name.now Awaits.Data self.new.kept.files.items) }
         ensures bound { OnOk result (at + length piece.now < 2 ^ 63) }
-        ensures keeps { KeepsAwaiting self.old self.new }
+        ensures keeps { KeepsAwaiting R.answered self.old self.new }
     {
         match self.place_of(name)? {
             Some(place) => self.kept.write_at(place, at, piece),
@@ -202,7 +220,7 @@ impl<F: SystemFile + Drop, R: System<File = F> + AllocGlobal + Drop> Folder<R, F
     pub(crate) fn cut(&mut self, name: &FileName, to: u64) -> io::Result<()>
         ensures cut { OnOk result (OfFile R.answered (F.answered (CutTo to)) name.now self.old) }
         ensures marked { OnOk result (Awaiting name.now Awaits.Everything self.new.kept.files.items) }
-        ensures keeps { KeepsAwaiting self.old self.new }
+        ensures keeps { KeepsAwaiting R.answered self.old self.new }
     {
         match self.place_of(name)? {
             Some(place) => self.kept.cut(place, to),
@@ -214,21 +232,20 @@ impl<F: SystemFile + Drop, R: System<File = F> + AllocGlobal + Drop> Folder<R, F
     fn make_new(&mut self, name: &FileName) -> io::Result<()>
         ensures made { OnOk result ((file : F) × R.answered (Made (path_of self.old name.now) file) self.old.system) }
         ensures marked { OnOk result (Awaiting name.now Awaits.Everything self.new.kept.files.items) }
-        ensures keeps { KeepsAwaiting self.old self.new }
+        ensures keeps { KeepsAwaiting R.answered self.old self.new }
         ensures names { self.new.kept.names_await ≡ true }
     {
-        self.kept.note_names();
+        self.note_names();
         let path = self.path_of(name)?;
         let file = self.system.make_file(path.as_str())?;
-        let made = KeptFile::new(name.copy(), file, Awaits::Everything);
-        self.kept.keep(made)?;
+        self.keep(name, file, Awaits::Everything)?;
         Ok(())
     }
 
     /// Makes a file, or empties the one that is there.
     pub(crate) fn make(&mut self, name: &FileName) -> io::Result<()>
         ensures made { OnOk result (HasMade R.answered F.answered name.now self.old self.new) }
-        ensures keeps { KeepsAwaiting self.old self.new }
+        ensures keeps { KeepsAwaiting R.answered self.old self.new }
     {
         match self.place_of(name)? {
             Some(place) => self.kept.cut(place, 0),
@@ -242,7 +259,7 @@ impl<F: SystemFile + Drop, R: System<File = F> + AllocGlobal + Drop> Folder<R, F
         ensures failed { OnErr result (MayHaveChanged self.old self.new) }
         ensures same { IsSameFolder self.old self.new }
     {
-        self.kept.note_names();
+        self.note_names();
         let path = self.path_of(name)?;
         self.system.remove_file(path.as_str())?;
         self.kept.forget(name);
@@ -255,7 +272,7 @@ impl<F: SystemFile + Drop, R: System<File = F> + AllocGlobal + Drop> Folder<R, F
         ensures failed { OnErr result (MayHaveChanged self.old self.new) }
         ensures same { IsSameFolder self.old self.new }
     {
-        self.kept.note_names();
+        self.note_names();
         let old = self.path_of(from)?;
         let new = self.path_of(to)?;
         self.system.rename_file(old.as_str(), new.as_str())?;

@@ -3,7 +3,7 @@ ghost use Rattle.std.specs.Prelude.{◌≡◌, ◌≢◌, ◌≤◌, ◌<◌, �
 ghost use Rattle.std.specs.List.{All, position};
 ghost use Rattle.std.specs.Str.{bytes_eq};
 ghost use Rattle.weed_base.specs.System.{Wrote, CutTo, SettledAll};
-ghost use Rattle.weed_base.specs.Awaiting.{Covers, Awaiting, StillAwaits, IsNamedAt, IsFileAt, FallsByAnswer, EachPair, AwaitsNothing, without, AreRenamed};
+ghost use Rattle.weed_base.specs.Awaiting.{Covers, Awaiting, StillAwaits, IsNamedAt, IsFileAt, IsOpenAs, OpensNone, FallsByAnswer, EachPair, AwaitsNothing, without, AreRenamed};
 ghost use Rattle.weed_base.specs.declared.real.kept.Awaits.{Awaits};
 ghost use Rattle.weed_base.specs.declared.real.kept.Awaits.TheVariants.{Nothing, Data, Everything};
 
@@ -133,17 +133,29 @@ impl<F: SystemFile + Drop> KeptFiles<F> {
         &self.files[place].file
     }
 
-    /// Keeps an open file, and lets those go that await nothing where there are too many. Answers its place.
-    pub(super) fn keep(&mut self, opened: KeptFile<F>) -> io::Result<usize>
-        ensures kept { IfOk result (λ place. IsNamedAt opened.name place self.new.files.items × IsFileAt place self.new.files.items opened.file) }
-        ensures marked { OnOk result (Awaiting opened.name opened.awaits self.new.files.items) }
+    /// Lets the files go that await nothing, where there are too many.
+    fn let_idle_go(&mut self)
         ensures still { StillAwaits self.old.files.items self.new.files.items }
+        ensures only { OpensNone self.old.files.items self.new.files.items }
         ensures names { self.new.names_await ≡ self.old.names_await }
         ensures directory { self.new.directory ≡ self.old.directory }
     {
         if self.files.len() >= MAX_KEPT {
             self.files.retain(|kept| kept.awaits != Awaits::Nothing);
         }
+    }
+
+    /// Keeps an open file, and answers its place.
+    pub(super) fn keep(&mut self, opened: KeptFile<F>) -> io::Result<usize>
+        ensures kept { IfOk result (λ place. IsNamedAt opened.name place self.new.files.items × IsFileAt place self.new.files.items opened.file) }
+        ensures marked { OnOk result (Awaiting opened.name opened.awaits self.new.files.items) }
+        ensures still { StillAwaits self.old.files.items self.new.files.items }
+        ensures only { (name : List ℕ) (file : F) → IsOpenAs name file self.new.files.items
+            → IsOpenAs name file self.old.files.items ⊎ ((opened.name ≡ name) × (opened.file ≡ file)) }
+        ensures names { self.new.names_await ≡ self.old.names_await }
+        ensures directory { self.new.directory ≡ self.old.directory }
+    {
+        self.let_idle_go();
         let place = self.files.len();
         self.files.push(opened)?;
         Ok(place)
@@ -156,6 +168,7 @@ impl<F: SystemFile + Drop> KeptFiles<F> {
         ensures marked { (name : List ℕ) → IsNamedAt name place self.old.files.items → at + length piece.now < 2 ^ 63 → Awaiting name Awaits.Data self.new.files.items }
         ensures written { (file : F) → IsFileAt place self.old.files.items file → OnOk result (F.answered (Wrote at piece.now) file) }
         ensures still { StillAwaits self.old.files.items self.new.files.items }
+        ensures only { OpensNone self.old.files.items self.new.files.items }
         ensures names { self.new.names_await ≡ self.old.names_await }
         ensures directory { self.new.directory ≡ self.old.directory }
     {
@@ -168,6 +181,7 @@ impl<F: SystemFile + Drop> KeptFiles<F> {
         ensures marked { (name : List ℕ) → IsNamedAt name place self.old.files.items → Awaiting name Awaits.Everything self.new.files.items }
         ensures cut { (file : F) → IsFileAt place self.old.files.items file → OnOk result (F.answered (CutTo to) file) }
         ensures still { StillAwaits self.old.files.items self.new.files.items }
+        ensures only { OpensNone self.old.files.items self.new.files.items }
         ensures names { self.new.names_await ≡ self.old.names_await }
         ensures directory { self.new.directory ≡ self.old.directory }
     {

@@ -4,7 +4,7 @@ use Rattle.weed_base.specs.System.{CutTo}
 use Rattle.weed_base.specs.Awaiting.{IsNamedAt}
 use Rattle.weed_base.proofs.AwaitingLemmas.{on_ok}
 use Rattle.weed_base.specs.Folder.{path_of}
-use Rattle.weed_base.proofs.FolderLemmas.{at_found, of_placed, keeps_along, keeps_by}
+use Rattle.weed_base.proofs.FolderLemmas.{at_found, of_placed, keeps_along, keeps_by, opens_none}
 use Rattle.weed_base.proofs.real.folder.Folder.make.Goals as goal
 
 pub returns-in-Some-clause-made : goal.returns-in-Some-clause-made
@@ -14,7 +14,7 @@ returns-in-Some-clause-made g c =
     (of_placed (λ call. g.R.System.answered call c.args.self.now.system) (path_of c.args.self.now c.args.name.now) _ _ _ c.in-Some.place c.cut.result (g.F.SystemFile.answered (CutTo 0)) (at_found _ _ _ _ c.in-Some.is c.in_ok-place.ensures.opened) c.cut.ensures.cut)
 
 pub returns-in-Some-clause-keeps : goal.returns-in-Some-clause-keeps
-returns-in-Some-clause-keeps g c = keeps_along c.place_of.ensures.keeps (keeps_by c.place_of.new.self c.cut.new.self c.cut.ensures.still (λ was. c.cut.ensures.names ∙ was) c.cut.ensures.directory)
+returns-in-Some-clause-keeps g c = keeps_along g.R.System.answered c.place_of.ensures.keeps (keeps_by g.R.System.answered c.place_of.new.self c.cut.new.self (opens_none g.R.System.answered c.place_of.new.self c.cut.new.self c.cut.ensures.only) c.cut.ensures.still (λ was. c.cut.ensures.names ∙ was) c.cut.ensures.directory)
 
 pub returns-in-None-clause-keeps : goal.returns-in-None-clause-keeps
-returns-in-None-clause-keeps g c = keeps_along c.place_of.ensures.keeps c.make_new.ensures.keeps
+returns-in-None-clause-keeps g c = keeps_along g.R.System.answered c.place_of.ensures.keeps c.make_new.ensures.keeps

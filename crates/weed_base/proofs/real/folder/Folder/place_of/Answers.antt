@@ -1,4 +1,4 @@
-use Rattle.std.proofs.Common.{sym, ap, ◌∙◌, inr, subst, List, ℕ, Option, MatchOption}
+use Rattle.std.proofs.Common.{sym, ◌∙◌, inr, subst, List, ℕ, Option, MatchOption}
 use Rattle.weed_base.specs.System.{PathCall, Opened, Missed}
 use Rattle.weed_base.specs.Folder.{path_of}
 use Rattle.weed_base.proofs.AwaitingLemmas.{named_at_position}
@@ -17,6 +17,6 @@ returns-clause-opened g c =
     let asked = c.as_str.result.now in
     let opened = subst (λ (found : Option g.row.F.Denot). MatchOption found (answered (Missed asked)) (λ file. answered (Opened asked file))) c.in-Some-2.is c.in_ok-file.ensures in (
       c.in-Some-2.file,
-      λ d. c.in_ok-keep.ensures.kept.1 d ∙ ap (λ kept. kept.file) c.new-opened.ensures,
+      c.in_ok-keep.ensures.kept.1,
       inr (subst (λ (path : List ℕ). answered (Opened path c.in-Some-2.file)) (c.as_str.ensures.value ∙ c.in_ok-path.ensures) opened),
     )

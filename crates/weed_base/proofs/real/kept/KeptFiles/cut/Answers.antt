@@ -1,8 +1,8 @@
-use Rattle.std.proofs.Common.{subst, ap, ◌∙◌, OnOk}
+use Rattle.std.proofs.Common.{◌≡◌, sym, subst, ap, ◌∙◌, OnOk}
 use Rattle.weed_base.specs.System.{CutTo}
 use Rattle.weed_base.specs.Awaiting.{Covers}
 use Rattle.weed_base.specs.declared.real.kept.Awaits.TheVariants.{Everything}
-use Rattle.weed_base.proofs.AwaitingLemmas.{still_set, named_set, covers_all}
+use Rattle.weed_base.proofs.AwaitingLemmas.{still_set, named_set, set_any, covers_all}
 use Rattle.weed_base.proofs.real.kept.KeptFiles.cut.Goals as goal
 
 pub returns-clause-marked : goal.returns-clause-marked
@@ -14,3 +14,8 @@ returns-clause-cut g c = λ file at. subst (λ (asked : g.row.F.Denot). OnOk c.c
 
 pub returns-clause-still : goal.returns-clause-still
 returns-clause-still g c = still_set _ _ c.index_mut.result.now c.cut.new.self c.requires c.index_mut.ensures.value c.cut.ensures.name (rw c.cut.ensures.marked (covers_all _))
+
+pub returns-clause-only : goal.returns-clause-only
+returns-clause-only g c = λ name file.
+    set_any (λ kept. (kept.name ≡ name) × (kept.file ≡ file)) _ c.args.place c.index_mut.result.now c.cut.new.self c.requires c.index_mut.ensures.value
+    (λ new. (sym c.cut.ensures.name ∙ new.0, sym c.cut.ensures.file ∙ new.1))

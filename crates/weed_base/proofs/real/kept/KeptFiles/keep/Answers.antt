@@ -1,20 +1,16 @@
-use Rattle.std.proofs.Common.{rules, ◌≡◌, refl}
-use Rattle.std.proofs.lemmas.Fn.{filter_same}
+use Rattle.std.proofs.Common.{◌≡◌, refl, inl, inr, subst, List}
 use Rattle.std.proofs.lemmas.List.Quantifiers.{Any-push}
-use Rattle.weed_base.specs.Awaiting.{Covers, StillAwaits}
+use Rattle.weed_base.specs.Awaiting.{Covers, IsOpenAs}
 use Rattle.weed_base.specs.declared.real.kept.KeptFile.{KeptFile}
-use Rattle.weed_base.proofs.AwaitingLemmas.{still_awaiting, still_push, covers_same, awaits_something}
+use Rattle.weed_base.proofs.AwaitingLemmas.{still_push, covers_same, push_any}
 use Rattle.weed_base.proofs.real.kept.KeptFiles.keep.Goals as goal
-use Rattle.weed_base.proofs.real.kept.KeptFiles.keep.Goals.{then-len-ge-MAX_KEPT, else-len-ge-MAX_KEPT}
 
 pub returns-in_err-push-clause-still : goal.returns-in_err-push-clause-still
-returns-in_err-push-clause-still g c =
-    let kept : StillAwaits c.args.self.now.files.items c.if-len-ge-MAX_KEPT.self.files.items =
-    elim c.if-len-ge-MAX_KEPT.branch [
-      | then-len-ge-MAX_KEPT w ↦ rw (w.self-is, filter_same _ (λ (file : KeptFile g.row.F.Denot). awaits_something file.awaits) _ (λ x b f' k. search rules) _ _ w.retain.ensures.filtered) (still_awaiting c.args.self.now.files.items)
-      | else-len-ge-MAX_KEPT w ↦ rw w.self-is (λ name mark something found. found)
-    ] in
-    rw c.in_err-push.ensures.items kept
+returns-in_err-push-clause-still g c = rw c.in_err-push.ensures.items c.let_idle_go.ensures.still
+
+pub returns-in_err-push-clause-only : goal.returns-in_err-push-clause-only
+returns-in_err-push-clause-only g c = λ name file found.
+    inl (c.let_idle_go.ensures.only name file (subst (λ (files : List (KeptFile g.row.F.Denot)). IsOpenAs name file files) c.in_err-push.ensures.items found))
 
 pub returns-clause-marked : goal.returns-clause-marked
 returns-clause-marked g c =
@@ -22,9 +18,12 @@ returns-clause-marked g c =
 
 pub returns-clause-still : goal.returns-clause-still
 returns-clause-still g c =
-    let kept : StillAwaits c.args.self.now.files.items c.if-len-ge-MAX_KEPT.self.files.items =
-    elim c.if-len-ge-MAX_KEPT.branch [
-      | then-len-ge-MAX_KEPT w ↦ rw (w.self-is, filter_same _ (λ (file : KeptFile g.row.F.Denot). awaits_something file.awaits) _ (λ x b f' k. search rules) _ _ w.retain.ensures.filtered) (still_awaiting c.args.self.now.files.items)
-      | else-len-ge-MAX_KEPT w ↦ rw w.self-is (λ name mark something found. found)
-    ] in
-    rw c.in_ok-push.ensures.items (λ name mark something found. still_push c.if-len-ge-MAX_KEPT.self.files.items c.args.opened name mark something (kept name mark something found))
+    rw c.in_ok-push.ensures.items (λ name mark something found. still_push c.let_idle_go.new.self.files.items c.args.opened name mark something (c.let_idle_go.ensures.still name mark something found))
+
+pub returns-clause-only : goal.returns-clause-only
+returns-clause-only g c = λ name file found.
+    let there = subst (λ (files : List (KeptFile g.row.F.Denot)). IsOpenAs name file files) c.in_ok-push.ensures.items found in
+    elim (push_any (λ kept. (kept.name ≡ name) × (kept.file ≡ file)) c.let_idle_go.new.self.files.items c.args.opened there) [
+      | inl was ↦ inl (c.let_idle_go.ensures.only name file was)
+      | inr new ↦ inr new
+    ]

@@ -1,8 +1,8 @@
-use Rattle.std.proofs.Common.{subst, ap, ◌∙◌, OnOk}
+use Rattle.std.proofs.Common.{◌≡◌, sym, subst, ap, ◌∙◌, OnOk}
 use Rattle.weed_base.specs.System.{Wrote}
 use Rattle.weed_base.specs.Awaiting.{Covers}
 use Rattle.weed_base.specs.declared.real.kept.Awaits.TheVariants.{Data}
-use Rattle.weed_base.proofs.AwaitingLemmas.{still_set, named_set}
+use Rattle.weed_base.proofs.AwaitingLemmas.{still_set, named_set, set_any}
 use Rattle.weed_base.proofs.real.kept.KeptFiles.write_at.Goals as goal
 
 pub returns-clause-marked : goal.returns-clause-marked
@@ -14,3 +14,8 @@ returns-clause-written g c = λ file at. subst (λ (asked : g.row.F.Denot). OnOk
 
 pub returns-clause-still : goal.returns-clause-still
 returns-clause-still g c = still_set _ _ c.index_mut.result.now c.write_at.new.self c.requires c.index_mut.ensures.value c.write_at.ensures.name c.write_at.ensures.still
+
+pub returns-clause-only : goal.returns-clause-only
+returns-clause-only g c = λ name file.
+    set_any (λ kept. (kept.name ≡ name) × (kept.file ≡ file)) _ c.args.place c.index_mut.result.now c.write_at.new.self c.requires c.index_mut.ensures.value
+    (λ new. (sym c.write_at.ensures.name ∙ new.0, sym c.write_at.ensures.file ∙ new.1))

@@ -1,0 +1,16 @@
+use Rattle.std.proofs.Common.{rules, ◌≡◌, List, subst}
+use Rattle.std.proofs.lemmas.Fn.{filter_same}
+use Rattle.weed_base.specs.Awaiting.{IsOpenAs}
+use Rattle.weed_base.specs.declared.real.kept.KeptFile.{KeptFile}
+use Rattle.weed_base.proofs.AwaitingLemmas.{still_awaiting, awaits_something, filter_any}
+use Rattle.weed_base.proofs.real.kept.KeptFiles.let_idle_go.Goals as goal
+
+pub returns-then-len-ge-MAX_KEPT-clause-still : goal.returns-then-len-ge-MAX_KEPT-clause-still
+returns-then-len-ge-MAX_KEPT-clause-still g c =
+    rw (filter_same _ (λ (kept : KeptFile g.row.F.Denot). awaits_something kept.awaits) _ (λ x b f' k. search rules) _ _ c.retain.ensures.filtered) (still_awaiting c.args.self.now.files.items)
+
+pub returns-then-len-ge-MAX_KEPT-clause-only : goal.returns-then-len-ge-MAX_KEPT-clause-only
+returns-then-len-ge-MAX_KEPT-clause-only g c = λ name file found.
+    filter_any (λ kept. (kept.name ≡ name) × (kept.file ≡ file)) (λ kept. awaits_something kept.awaits) c.args.self.now.files.items
+    (subst (λ (files : List (KeptFile g.row.F.Denot)). IsOpenAs name file files)
+    (filter_same _ (λ (kept : KeptFile g.row.F.Denot). awaits_something kept.awaits) _ (λ x b f' k. search rules) _ _ c.retain.ensures.filtered) found)
