@@ -48,8 +48,6 @@ taking-preserved g c =
       told_goes_on told (g.D.Disk.files c.taking.disk) c.args.name.now c.args.gate c.args.reading.now.at c.args.most c.args.room c.taking.reading.at c.take_text.new.reading.at c.taking.bytes _ texts c.push.new.self.items text c.in_ok-text.field-0
           c.taking.invariant.3 c.in-Some.is (ap (λ (l : List ℕ). c.taking.bytes + length l) c.as_slice.ensures) pushed (omega (arith, c.taking-test.true, c.len.ensures)) c.if-bytes-most.true c.taking.invariant.5 c.in_ok-text.ensures.takes,
       c.take_text.ensures.cause.quiet (ok_is_no_fault c.take_text.result _ _ c.in_ok-text.was) ∙ c.taking.invariant.6,
-      c.take_text.ensures.sent.0 ∙ c.taking.invariant.7,
-      c.take_text.ensures.sent.1 ∙ c.taking.invariant.8,
-      reads_both g.D.Disk.tick g.D.Disk.images g.D.Disk.image_since c.args.disk.now c.taking.disk c.take_text.new.disk c.taking.invariant.9 c.take_text.ensures.still,
-      c.take_text.ensures.attachment ∙ c.taking.invariant.10,
+      ((c.take_text.ensures.beside.0.0 ∙ c.taking.invariant.7.0.0, c.take_text.ensures.beside.0.1 ∙ c.taking.invariant.7.0.1), c.take_text.ensures.beside.1 ∙ c.taking.invariant.7.1),
+      reads_both g.D.Disk.tick g.D.Disk.images g.D.Disk.image_since c.args.disk.now c.taking.disk c.take_text.new.disk c.taking.invariant.8 c.take_text.ensures.still,
     )

@@ -2,6 +2,7 @@ use Rattle.std.proofs.Common.{◌≡◌, ℕ, ◌+◌, ◌-◌, ◌≤◌, List,
 use Rattle.std.specs.Prelude.{IfSome}
 use Rattle.weed_base.specs.Files.{content}
 use Rattle.weed_base.specs.Images.{OnlyReads}
+use Rattle.weed_base.specs.Beside.{StaysBeside}
 use Rattle.meta_log.specs.Segment.{items}
 use Rattle.meta_log.specs.Stretch.{IsOf}
 use Rattle.meta_log.specs.Left.{IsLeft}
@@ -19,10 +20,8 @@ invariant-taking g l =
     × IfSome (g.D.Disk.files l.fn.disk) (λ files.
     (first : List (List ℕ)) → IsLeft (content files l.name) l.gate l.fn.reading.at first → IsCollected (content files l.name) l.gate l.reading.at l.most l.room l.bytes first l.texts.items)
     × (g.D.Disk.faults l.disk ≡ g.D.Disk.faults l.fn.disk)
-    × (g.D.Disk.sent l.disk ≡ g.D.Disk.sent l.fn.disk)
-    × (g.D.Disk.send_faults l.disk ≡ g.D.Disk.send_faults l.fn.disk)
+    × StaysBeside g.D.Disk.sent g.D.Disk.send_faults g.D.Disk.attachment l.fn.disk l.disk
     × OnlyReads g.D.Disk.tick g.D.Disk.images g.D.Disk.image_since l.fn.disk l.disk
-    × (g.D.Disk.attachment l.disk ≡ g.D.Disk.attachment l.fn.disk)
 
 abbrev pub decreases-taking : goal.decreases-taking
 decreases-taking g l = l.room - length l.texts.items

@@ -2,6 +2,7 @@ use Rattle.std.proofs.Common.{◌≡◌, ℕ, ◌-◌, List}
 use Rattle.std.specs.Prelude.{IfSome}
 use Rattle.weed_base.specs.Files.{content}
 use Rattle.weed_base.specs.Images.{OnlyReads}
+use Rattle.weed_base.specs.Beside.{StaysBeside}
 use Rattle.meta_log.specs.Stretch.{IsOf}
 use Rattle.meta_log.specs.Skip.{IsAhead, AreLate}
 use Rattle.meta_log.proofs.records.skip_past.Given as goal
@@ -14,10 +15,8 @@ invariant-skipping g l =
     × IfSome (g.D.Disk.files l.fn.disk) (λ files.
     (past : List (List ℕ)) → IsAhead (content files l.name) l.gate l.after l.fn.reading.at past → AreLate l.after past → IsAhead (content files l.name) l.gate l.after l.reading.at past)
     × (g.D.Disk.faults l.disk ≡ g.D.Disk.faults l.fn.disk)
-    × (g.D.Disk.sent l.disk ≡ g.D.Disk.sent l.fn.disk)
-    × (g.D.Disk.send_faults l.disk ≡ g.D.Disk.send_faults l.fn.disk)
+    × StaysBeside g.D.Disk.sent g.D.Disk.send_faults g.D.Disk.attachment l.fn.disk l.disk
     × OnlyReads g.D.Disk.tick g.D.Disk.images g.D.Disk.image_since l.fn.disk l.disk
-    × (g.D.Disk.attachment l.disk ≡ g.D.Disk.attachment l.fn.disk)
 
 abbrev pub decreases-skipping : goal.decreases-skipping
 decreases-skipping g l = l.reading.size - l.reading.at
