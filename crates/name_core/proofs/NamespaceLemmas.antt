@@ -2,9 +2,8 @@
 use Rattle.std.proofs.Common.{◌≡◌, ℕ, List, [], ◌∷◌, ◌++◌, Some, refl, sym, ap, ◌∙◌, subst, inl, inr}
 use Rattle.std.specs.Prelude.{IsSome, IsSomeAnd}
 use Rattle.std.specs.FinMap.{get, insert, empty, get-empty}
-use Rattle.std.specs.Ordering.{nat_cmp}
-use Rattle.std.specs.Cmp.Lexicographic.{slice_cmp}
 use Rattle.std.proofs.lemmas.Bool.{false≢true}
+use Rattle.weed_base.specs.PathOrder.{path_cmp}
 use Rattle.name_core.specs.declared.entry.Entry.{Entry}
 use Rattle.name_core.specs.declared.entry.Kind.TheVariants.{Directory}
 use Rattle.name_core.specs.declared.change.Change.{Change}
@@ -44,8 +43,8 @@ IsWellFormed-insert names top part entry kind above formed = record {
 
 pub IsWellFormed-empty : IsWellFormed empty
 IsWellFormed-empty = record {
-  rootless = get-empty (slice_cmp (slice_cmp nat_cmp)) [];
-  parents = λ parent name there. absurd (false≢true (subst IsSome (get-empty (slice_cmp (slice_cmp nat_cmp)) (parent ++ name ∷ [])) there));
+  rootless = get-empty path_cmp [];
+  parents = λ parent name there. absurd (false≢true (subst IsSome (get-empty path_cmp (parent ++ name ∷ [])) there));
 }
 
 pub after_changes-append : (xs ys : List Change) (names : Namespace) → after_changes (xs ++ ys) names ≡ after_changes ys (after_changes xs names)

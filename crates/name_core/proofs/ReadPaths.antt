@@ -20,7 +20,7 @@ use Rattle.name_core.specs.declared.entry.Entry.{Entry}
 use Rattle.name_core.specs.declared.parts.EntryParts.{EntryParts}
 use Rattle.name_core.specs.declared.parts.EventParts.{EventParts}
 use Rattle.name_core.specs.RecordText.{directory_of, name_of}
-use Rattle.name_core.specs.RecordReading.{is_entry, entry_of, path_read, path_with, path_in, directory_put, directory_of_new, is_path_of, stays, if_stays, change_of, Finds}
+use Rattle.name_core.specs.RecordReading.{is_entry, entry_of, path_read, path_with, path_in, directory_put, directory_of_new, is_path_of, stays, if_stays, change_of, FindsMeant}
 use Rattle.name_core.proofs.PathTexts.{directory_and_name}
 
 -- ---- No text has want of memory for a fault.
@@ -89,12 +89,12 @@ not_memory fault e other is memory = other cc
 
 found_is : (fault : Option PathFault) (value : List (List ℕ)) (read : Result (List (List ℕ)) PathFault) (found : Result (Option (List (List ℕ))) AllocError)
     → fault ≢ Some Memory → IfOk read (λ path. IsPath path × (path ≡ value)) → MatchOption fault (IsOkUnless read Memory) (λ f. read ≡ Err f) → IsIfPath read found
-    → Finds (cond (is_none fault) (Some value) None) found
-found_is None value (Ok path) found other is refused made = subst (Finds (Some value)) (sym made) (ap Some is.1)
+    → FindsMeant (cond (is_none fault) (Some value) None) found
+found_is None value (Ok path) found other is refused made = subst (FindsMeant (Some value)) (sym made) (ap Some is.1)
 found_is None value (Err e) (Ok o) other is refused made = absurd (not_err o (made.0 refused))
 found_is None value (Err e) (Err f) other is refused made = refl
 found_is (Some fault) value (Ok path) found other is refused made = absurd cc
-found_is (Some fault) value (Err e) found other is refused made = subst (Finds None) (sym (made.1 (not_memory fault e other refused))) refl
+found_is (Some fault) value (Err e) found other is refused made = subst (FindsMeant None) (sym (made.1 (not_memory fault e other refused))) refl
 
 in_two : (fault more : Option PathFault) (top : List (List ℕ)) (f : List (List ℕ) → List (List ℕ))
     → option_and_then (λ path. cond (is_none more) (Some (f path)) None) (cond (is_none fault) (Some top) None) ≡ cond (is_none (first_fault (fault ∷ more ∷ []))) (Some (f top)) None
@@ -112,9 +112,9 @@ path_in_is directory name = in_one (read_fault directory) (parts_in directory) n
 
 pub read_in_is : (directory name : List ℕ) (read : Result (List (List ℕ)) PathFault) (found : Result (Option (List (List ℕ))) AllocError)
     → IfOk read (λ path. IsPath path × (path ≡ parts_in directory ++ name ∷ [])) → MatchOption (read_in_fault directory name) (IsOkUnless read Memory) (λ f. read ≡ Err f) → IsIfPath read found
-    → Finds (path_in directory name) found
+    → FindsMeant (path_in directory name) found
 read_in_is directory name read found is refused made =
-    subst (λ o. Finds o found) (sym (path_in_is directory name))
+    subst (λ o. FindsMeant o found) (sym (path_in_is directory name))
     (found_is (read_in_fault directory name) (parts_in directory ++ name ∷ []) read found (read_in_other directory name) is refused made)
 
 -- ---- Two places with one path are the same.

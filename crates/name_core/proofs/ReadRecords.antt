@@ -22,7 +22,7 @@ use Rattle.name_core.specs.Namespace.{path_of}
 use Rattle.name_core.specs.Log.{end_of_time}
 use Rattle.name_core.specs.Messages.{AttributesText}
 use Rattle.name_core.specs.RecordText.{HasValidEntry, CanBeWritten}
-use Rattle.name_core.specs.RecordReading.{are_good, is_entry, entry_of, path_read, path_with, path_in, directory_put, directory_of_new, stays, if_stays, change_of, event_at, change_at, each_change_at, all_of, or_wire, changes_in, record_with, record_from, record_of, Reads}
+use Rattle.name_core.specs.RecordReading.{are_good, is_entry, entry_of, path_read, path_with, path_in, directory_put, directory_of_new, stays, if_stays, change_of, event_at, change_at, each_change_at, all_of, or_wire, changes_in, record_with, record_from, record_of, ReadsRecord}
 use Rattle.name_core.proofs.Paths.{filled-append}
 
 -- A change that a record may have
@@ -142,6 +142,6 @@ can_be_written text r is =
     let read = from_ok (last_number 1 whole.0) (changes_in whole.0) r whole.2 in
     subst (λ made. IfOk made CanBeWritten) read.2 (record_can_be_written (last_number 1 whole.0) read.0 (changes_are_good whole.0 read.0 read.1))
 
-pub read_can_be_written : (text : List ℕ) (result : Result Record RecordFault) → Reads (record_of text) result → IfOk result CanBeWritten
+pub read_can_be_written : (text : List ℕ) (result : Result Record RecordFault) → ReadsRecord (record_of text) result → IfOk result CanBeWritten
 read_can_be_written text (Ok r) reads = can_be_written text r reads
 read_can_be_written text (Err fault) reads = tt

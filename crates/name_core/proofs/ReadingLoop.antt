@@ -17,9 +17,9 @@ use Rattle.name_core.specs.declared.change.Change.{Change}
 use Rattle.name_core.specs.declared.change.Record.{Record}
 use Rattle.name_core.specs.declared.found.Found.{Found}
 use Rattle.name_core.specs.declared.record_fault.RecordFault.{RecordFault}
-use Rattle.name_core.specs.declared.found.Found.TheVariants.{Changes, Unkept, Nothing}
+use Rattle.name_core.specs.declared.found.Found.TheVariants.{Changes, OutOfMemory, Nothing}
 use Rattle.name_core.specs.declared.record_fault.RecordFault.TheVariants as faults
-use Rattle.name_core.specs.RecordReading.{change_at, each_change_at, all_of, or_wire, change_of, changes_in, event_at, record_from, Collects, Finds}
+use Rattle.name_core.specs.RecordReading.{change_at, each_change_at, all_of, or_wire, change_of, changes_in, event_at, record_from, CollectsChanges, FindsMeant}
 use Rattle.name_core.specs.Log.{end_of_time}
 
 -- What was read so far: the fields seen, what their events mean, and what was found of these
@@ -28,7 +28,7 @@ pub record ReadsSo (text : List ℕ) (left : Result (List FieldText) WireFault) 
   pub meant : List (Option Change)
   pub parts : fields_of text ≡ with_seen seen left
   pub read : each_change_at (messages_at 2 seen) ≡ Ok meant
-  pub all : Collects (all_of meant) found
+  pub all : CollectsChanges (all_of meant) found
 
 -- ---- Lists of events
 
@@ -97,9 +97,9 @@ lost_more before changes change is =
 
 -- One change more, where none is kept
 pub none_kept_more : (before : List (Option Change)) (found : Found) (change : Change) → ((changes : Vec Change) → found ≢ Changes changes)
-    → Collects (all_of before) found → Collects (all_of (before ++ Some change ∷ [])) found
+    → CollectsChanges (all_of before) found → CollectsChanges (all_of (before ++ Some change ∷ [])) found
 none_kept_more before (Changes changes) change other so = absurd (other changes refl)
-none_kept_more before Unkept change other so = lost_more before (so.0 ∷ so.1) change so.2
+none_kept_more before OutOfMemory change other so = lost_more before (so.0 ∷ so.1) change so.2
 none_kept_more before Nothing change other so = all_of-push before change ∙ ap (option_map (λ ys. ys ++ change ∷ [])) so
 
 pub some_meant : (meant : Option Change) → IsSome meant → (change : Change) × (meant ≡ Some change)
@@ -120,7 +120,7 @@ good_record time all first more is good =
 
 -- ---- A field more
 
-pub reads_none : (text : List ℕ) (found : Found) → Collects (Some []) found → ReadsSo text (fields_of text) found
+pub reads_none : (text : List ℕ) (found : Found) → CollectsChanges (Some []) found → ReadsSo text (fields_of text) found
 reads_none text found none = record { seen = []; meant = []; parts = with_seen-none (fields_of text); read = refl; all = none }
 
 parts_more : (text : List ℕ) (seen : List FieldText) (field : FieldText) (left now : Result (List FieldText) WireFault) → fields_of text ≡ with_seen seen left → left ≡ with_first field now → fields_of text ≡ with_seen (seen ++ field ∷ []) now
@@ -143,8 +143,8 @@ event_read seen meant field event change read is means =
     ∙ ap (λ r. r >>= λ more. Ok (meant ++ more)) (one_change event change means)
 
 pub reads_event : (text : List ℕ) (left now : Result (List FieldText) WireFault) (old new : Found) (field : FieldText) (event : List ℕ) (change : Option Change) (found : Result (Option Change) AllocError)
-    → ReadsSo text left old → left ≡ with_first field now → Some event ≡ text_in 2 field → change_at event ≡ Ok change → Finds change found
-    → ((before : List (Option Change)) (meant : Option Change) → Collects (all_of before) old → Finds meant found → Collects (all_of (before ++ meant ∷ [])) new)
+    → ReadsSo text left old → left ≡ with_first field now → Some event ≡ text_in 2 field → change_at event ≡ Ok change → FindsMeant change found
+    → ((before : List (Option Change)) (meant : Option Change) → CollectsChanges (all_of before) old → FindsMeant meant found → CollectsChanges (all_of (before ++ meant ∷ [])) new)
     → ReadsSo text now new
 reads_event text left now old new field event change found so first is means finds taken = record {
   seen = so.seen ++ field ∷ [];

@@ -2,16 +2,15 @@
 use Rattle.std.specs.Prelude.{◌≡◌, ◌≢◌, ℕ, List, [], ◌∷◌, ◌++◌, All, None, IsSome, IsSomeAnd, Bool, not}
 use Rattle.std.specs.List.{starts_with}
 use Rattle.std.specs.Str.{bytes_eq}
-use Rattle.std.specs.Ordering.{nat_cmp}
-use Rattle.std.specs.Cmp.Lexicographic.{slice_cmp}
 use Rattle.std.specs.FinMap.{FinMap, get, insert, retain_keys}
+use Rattle.weed_base.specs.PathOrder.{path_cmp}
 use Rattle.name_core.specs.declared.entry.Entry.{Entry}
 use Rattle.name_core.specs.declared.entry.Kind.TheVariants.{Directory}
 use Rattle.name_core.specs.declared.change.Change.{Change}
 use Rattle.name_core.specs.declared.change.Change.TheVariants.{Put, Drop}
 
 abbrev pub Namespace : Type 0
-Namespace = FinMap (slice_cmp (slice_cmp nat_cmp)) Entry
+Namespace = FinMap path_cmp Entry
 
 -- The path that a change names
 abbrev pub path_of : Change → List (List ℕ)

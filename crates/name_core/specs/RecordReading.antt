@@ -15,7 +15,7 @@ use Rattle.name_core.specs.declared.change.Change.{Change}
 use Rattle.name_core.specs.declared.change.Change.TheVariants.{Put}
 use Rattle.name_core.specs.declared.change.Record.{Record}
 use Rattle.name_core.specs.declared.found.Found.{Found}
-use Rattle.name_core.specs.declared.found.Found.TheVariants.{Changes, Unkept, Nothing}
+use Rattle.name_core.specs.declared.found.Found.TheVariants.{Changes, OutOfMemory, Nothing}
 use Rattle.name_core.specs.declared.parts.EntryParts.{EntryParts}
 use Rattle.name_core.specs.declared.parts.EntriesParts.{EntriesParts}
 use Rattle.name_core.specs.declared.parts.EventParts.{EventParts}
@@ -167,21 +167,21 @@ abbrev pub record_of : List ℕ → Result Record RecordFault
 record_of text = or_wire (fields_of text) (λ fields. record_from (last_number 1 fields) (changes_in fields))
 
 -- An answer is what the text is read as. Memory runs out only where the text is read as something.
-abbrev pub Reads : {X : Type 0} → Result X RecordFault → Result X RecordFault → Type 0
-Reads read (Ok x) = read ≡ Ok x
-Reads read (Err (faults.Wire fault)) = read ≡ Err (faults.Wire fault)
-Reads read (Err faults.BadRecord) = read ≡ Err faults.BadRecord
-Reads {X} read (Err faults.Memory) = (x : X) × (read ≡ Ok x)
+abbrev pub ReadsRecord : {X : Type 0} → Result X RecordFault → Result X RecordFault → Type 0
+ReadsRecord read (Ok x) = read ≡ Ok x
+ReadsRecord read (Err (faults.Wire fault)) = read ≡ Err (faults.Wire fault)
+ReadsRecord read (Err faults.BadRecord) = read ≡ Err faults.BadRecord
+ReadsRecord {X} read (Err faults.Memory) = (x : X) × (read ≡ Ok x)
 
 -- ---- What is kept while events are read
 
 -- An answer is what is meant. Memory runs out only where that is something.
-abbrev pub Finds : {X : Type 0} → Option X → Result (Option X) AllocError → Type 0
-Finds meant (Ok found) = found ≡ meant
-Finds meant (Err failed) = IsSome meant
+abbrev pub FindsMeant : {X : Type 0} → Option X → Result (Option X) AllocError → Type 0
+FindsMeant meant (Ok found) = found ≡ meant
+FindsMeant meant (Err failed) = IsSome meant
 
 -- What was found of events is all of their changes. Memory runs out only where there is one.
-abbrev pub Collects : Option (List Change) → Found → Type 0
-Collects all (Changes changes) = all ≡ Some changes.items
-Collects all Unkept = (first : Change) × (more : List Change) × (all ≡ Some (first ∷ more))
-Collects all Nothing = all ≡ None
+abbrev pub CollectsChanges : Option (List Change) → Found → Type 0
+CollectsChanges all (Changes changes) = all ≡ Some changes.items
+CollectsChanges all OutOfMemory = (first : Change) × (more : List Change) × (all ≡ Some (first ∷ more))
+CollectsChanges all Nothing = all ≡ None

@@ -2,7 +2,7 @@
 ghost use Rattle.std.specs.Prelude.{◌≡◌, ◌≢◌, ◌==◌, ◌||◌, ◌^◌, if◌then◌else◌, ℕ, List, IfOk, IsErr, IsTrue, length, nat_lt, Some, None, MatchResult};
 ghost use Rattle.name_core.specs.declared.change.Change.TheVariants.{Put};
 ghost use Rattle.name_core.specs.declared.entry.Entry.{Entry};
-ghost use Rattle.name_core.specs.RecordReading.{are_good, attributes_of, change_of, directory_of_new, directory_put, entry_of, is_entry, path_in, stays, Finds};
+ghost use Rattle.name_core.specs.RecordReading.{are_good, attributes_of, change_of, directory_of_new, directory_put, entry_of, is_entry, path_in, stays, FindsMeant};
 
 use crate::change::Change;
 use crate::entry::{Attributes, Entry, Kind, MAX_FILE_SIZE, MAX_MIME};
@@ -16,7 +16,7 @@ const DIGEST: usize = 16;
 
 /// The change of an event; `None` where it means nothing. Takes memory only where it means a change.
 pub fn change_in(alloc: Global, event: &EventParts) -> Result<Option<Change>, AllocError>
-    ensures { Finds (change_of event.now) result }
+    ensures { FindsMeant (change_of event.now) result }
 {
     let Some(new_entry) = &event.entries.new_entry else {
         return Ok(None);
@@ -55,7 +55,7 @@ fn is_in_place(event: &EventParts, directory: &[u8], name: &[u8]) -> bool
 
 /// The Put of a directory.
 fn put_in(alloc: Global, directory: &[u8], entry: &EntryParts) -> Result<Option<Change>, AllocError>
-    ensures { Finds (directory_put directory.now entry.now) result }
+    ensures { FindsMeant (directory_put directory.now entry.now) result }
 {
     if !is_valid(entry) || entry.fields.is_directory == 0 {
         return Ok(None);
@@ -69,7 +69,7 @@ fn put_in(alloc: Global, directory: &[u8], entry: &EntryParts) -> Result<Option<
 /// The path of a name in a directory; `None` where there is none. Takes memory only where there is one.
 #[tactic(auto, using(crate::proofs::ReadPaths::read_in_is))]
 fn path_at(alloc: Global, directory: &[u8], name: &[u8]) -> Result<Option<Path>, AllocError>
-    ensures { Finds (path_in directory.now name.now) result }
+    ensures { FindsMeant (path_in directory.now name.now) result }
 {
     if_path(Path::read_in(alloc, directory, name))
 }

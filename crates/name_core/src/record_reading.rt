@@ -1,7 +1,7 @@
 ghost use Rattle.std.specs.Prelude.{◌≡◌, List, Ok, IfOk, option_copied};
 ghost use Rattle.proto_wire.specs.Field.{FieldText, field_text, fields_of};
 ghost use Rattle.proto_wire.specs.Taken.{text_in};
-ghost use Rattle.name_core.specs.RecordReading.{changes_in, record_from, record_of, Reads};
+ghost use Rattle.name_core.specs.RecordReading.{changes_in, record_from, record_of, ReadsRecord};
 ghost use Rattle.name_core.specs.RecordText.{CanBeWritten};
 
 use crate::change::Record;
@@ -20,7 +20,7 @@ impl Record {
     /// alone: where memory runs out, the rest is read all the same, and nothing of it is kept. Until files are
     /// read, every event that isn't a Put of a directory is bad, and every entry with a chunk.
     pub fn read(alloc: Global, text: &[u8]) -> Result<Record, RecordFault>
-        ensures exact { Reads (record_of text.now) result }
+        ensures exact { ReadsRecord (record_of text.now) result }
         ensures valid { IfOk result CanBeWritten }
     {
         let fields: RecordFields = read_message(text)?;
@@ -30,7 +30,7 @@ impl Record {
 
 /// The record of this time and of all events of a text that has only whole fields.
 fn read_events(alloc: Global, text: &[u8], time: u64) -> Result<Record, RecordFault>
-    ensures { (fields : List FieldText) → fields_of text.now ≡ Ok fields → Reads (record_from time (changes_in fields)) result }
+    ensures { (fields : List FieldText) → fields_of text.now ≡ Ok fields → ReadsRecord (record_from time (changes_in fields)) result }
 {
     let mut reader = Reader::new(text);
     let mut found = Found::none(alloc);
