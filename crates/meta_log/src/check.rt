@@ -1,4 +1,4 @@
-ghost use Rattle.std.specs.Prelude.{List, ℕ, ◌+◌, ◌-◌, ◌^◌, ◌<◌, ◌≤◌, [], ◌∷◌, ◌++◌, IfOk, IfErr, MatchBool, if◌then◌else◌};
+ghost use Rattle.std.specs.Prelude.{List, ℕ, ◌+◌, ◌-◌, ◌^◌, ◌<◌, ◌≤◌, [], ◌∷◌, ◌++◌, IfOk, MatchBool, if◌then◌else◌};
 
 use std::alloc::{AllocError, Global};
 
@@ -6,9 +6,6 @@ use std::alloc::{AllocError, Global};
 pub trait Check {
     /// It may hold these, in this order.
     ghost allowed: { List (List ℕ) → Type 0 };
-
-    /// A payload that memory is taken for.
-    ghost takes_memory: { List ℕ → Type 0 };
 
     /// The check let these through, one after another.
     ghost passed: { Self → List (List ℕ) → Type 0 };
@@ -19,7 +16,6 @@ pub trait Check {
     /// Whether the payload may follow those that were let through. After a yes it is let through too.
     fn pass(&mut self, alloc: Global, payload: &[u8]) -> Result<bool, AllocError>
         requires { count self.old < 2 ^ 64 - 1 }
-        ensures memory { IfErr result (λ _. takes_memory payload.now) }
         ensures counts { IfOk result (λ fits. count self.new ≤ count self.old + (if fits then 1 else 0)) }
         ensures verdict { IfOk result (λ fits. (before : List (List ℕ)) → passed self.old before
             → MatchBool fits (passed self.new (before ++ payload.now ∷ [])) (¬ allowed (before ++ payload.now ∷ []))) };

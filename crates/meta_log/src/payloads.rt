@@ -13,8 +13,6 @@ pub struct AnyPayload;
 impl Check for AnyPayload {
     ghost allowed = { IsAllowed Log };
 
-    ghost takes_memory = { λ _. ⊥ };
-
     ghost passed = { λ _ payloads. IsAllowed Log payloads };
 
     ghost count = { λ _. 0 };
@@ -32,8 +30,6 @@ pub struct AnyMarks;
 
 impl Check for AnyMarks {
     ghost allowed = { IsAllowed Marks };
-
-    ghost takes_memory = { λ _. ⊥ };
 
     ghost passed = { λ _ payloads. IsAllowed Marks payloads };
 

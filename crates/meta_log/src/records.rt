@@ -98,8 +98,6 @@ pub fn skip_past<D: Disk>(
 impl Check for RisingRecords {
     ghost allowed = { AreRecords };
 
-    ghost takes_memory = { IsRecord };
-
     ghost passed = { λ check payloads. HasFront check.front payloads };
 
     ghost count = { λ check. check.front.count };
