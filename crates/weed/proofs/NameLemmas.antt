@@ -12,6 +12,7 @@ use Rattle.std.specs.Map.{lookup}
 use Rattle.std.proofs.lemmas.Bool.{cases_Bool}
 use Rattle.std.proofs.lemmas.Map.Entries.{lookup-filter-keys}
 use Rattle.weed_base.specs.Path.{IsBelow}
+use Rattle.weed_base.specs.PathOrder.{path_cmp}
 use Rattle.name_core.specs.declared.entry.Entry.{Entry}
 use Rattle.name_core.specs.declared.change.Change.TheVariants.{Put, Drop}
 use Rattle.name_core.specs.Namespace.{Namespace, step, is_within}
@@ -71,30 +72,30 @@ drop_is_silent top path apart names = drop_says_of top path names ∙ ap (λ b. 
 abbrev Entries : Type 0
 Entries = List (List (List ℕ) × Entry)
 
-found : (path : List (List ℕ)) (entries : Entries) → find (slice_cmp (slice_cmp nat_cmp)) path entries ≡ lookup (same_path path) entries
+found : (path : List (List ℕ)) (entries : Entries) → find path_cmp path entries ≡ lookup (same_path path) entries
 found path [] = refl
 found path (e ∷ entries) = ap (cond (same_path path e.0) (Some e.1)) (found path entries)
 
 -- A look-up in the entries is a look-up in the names.
-pub looked_up : (path : List (List ℕ)) (entries : Entries) → lookup (same_path path) entries ≡ get (from_entries {R = slice_cmp (slice_cmp nat_cmp)} entries) path
+pub looked_up : (path : List (List ℕ)) (entries : Entries) → lookup (same_path path) entries ≡ get (from_entries {R = path_cmp} entries) path
 looked_up path entries = sym (get-from_entries path_cmp_total entries path ∙ found path entries)
 
 pub found_at : (entries : Entries) (key path : List (List ℕ)) (there : Option Entry) → key ≡ path
-    → there ≡ lookup (same_path key) entries → there ≡ get (from_entries {R = slice_cmp (slice_cmp nat_cmp)} entries) path
-found_at entries key path there is finds = finds ∙ looked_up key entries ∙ ap (get (from_entries {R = slice_cmp (slice_cmp nat_cmp)} entries)) is
+    → there ≡ lookup (same_path key) entries → there ≡ get (from_entries {R = path_cmp} entries) path
+found_at entries key path there is finds = finds ∙ looked_up key entries ∙ ap (get (from_entries {R = path_cmp} entries)) is
 
 same : (m n : Namespace) → ((path : List (List ℕ)) → get m path ≡ get n path) → m ≡ n
 same m n alike = same_map path_cmp_total path_cmp-IsAntisymmetric m n alike
 
 -- Entries that are found alike are the same names.
 pub same_names : (old new : Entries) → ((path : List (List ℕ)) → lookup (same_path path) new ≡ lookup (same_path path) old)
-    → from_entries {R = slice_cmp (slice_cmp nat_cmp)} new ≡ from_entries old
+    → from_entries {R = path_cmp} new ≡ from_entries old
 same_names old new alike = same _ _ (λ path. sym (looked_up path new) ∙ alike path ∙ looked_up path old)
 
 -- An entry put into a table is put into its names.
 pub put_in : (old new : Entries) (at : List (List ℕ)) (entry : Entry)
     → ((path : List (List ℕ)) → lookup (same_path path) new ≡ cond (same_path at path) (Some entry) (lookup (same_path path) old))
-    → from_entries {R = slice_cmp (slice_cmp nat_cmp)} new ≡ insert (from_entries old) at entry
+    → from_entries {R = path_cmp} new ≡ insert (from_entries old) at entry
 put_in old new at entry puts = same _ _ (λ path.
     sym (looked_up path new) ∙ puts path
     ∙ ap (λ b. cond b (Some entry) (lookup (same_path path) old)) ((eq_by_cmp_equiv path_cmp_total).symm at path)
@@ -109,7 +110,7 @@ as_it_succeeds (Err error) ok ensured = let told : false ≡ true = ok in cc
 -- The entries outside of a top are the names that its drop leaves.
 pub left_by_drop : (old new : Entries) (top : List (List ℕ))
     → new ≡ filter (λ e. not (is_within top e.0)) old
-    → from_entries {R = slice_cmp (slice_cmp nat_cmp)} new ≡ step (Drop top) (from_entries old)
+    → from_entries {R = path_cmp} new ≡ step (Drop top) (from_entries old)
 left_by_drop old new top left = same _ _ (λ path.
     sym (looked_up path new)
     ∙ ap (lookup (same_path path)) left
@@ -122,7 +123,7 @@ left_by_drop old new top left = same _ _ (λ path.
 pub none_kept : (entries : Entries) → entries ≡ [] → AreKept (from_entries entries)
 none_kept entries none = record {
   each = λ path entry there.
-      let is : None ≡ Some entry = sym (get-empty _ path) ∙ ap (λ (e : Entries). get {R = slice_cmp (slice_cmp nat_cmp)} (from_entries e) path) (sym none) ∙ there in cc;
+      let is : None ≡ Some entry = sym (get-empty _ path) ∙ ap (λ (e : Entries). get {R = path_cmp} (from_entries e) path) (sym none) ∙ there in cc;
 }
 
 some_same : (a b : Entry) → Some a ≡ Some b → a ≡ b

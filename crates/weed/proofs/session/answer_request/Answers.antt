@@ -28,7 +28,7 @@ returns-in-Ok-clause-leads g c old rest asking =
     asking.asked
     (subst (λ (target : List ℕ). GivesTold moves tears (g.H.Disk.files c.args.world.now.host) (g.C.Clock.moments c.args.world.now.clock) c.args.session.now.filer target (g.H.Disk.files c.reply_to_target.new.disk) (g.C.Clock.moments c.reply_to_target.new.clock) c.reply_to_target.new.filer (Ok c.in-Ok.reply)) c.target-target.ensures c.in-Ok.ensures.gives)
     (λ before after. settles_sent disk.tick disk.images disk.image_since host c.reply_to_target.new.disk c.send_answer.new.host before after c.send_answer.ensures.still)
-    asking.filer asking.moments_are asking.sent_is (ap bytes_sent c.reply_to_target.ensures.sent.0) c.send_answer.ensures.files c.as_slice.ensures
+    asking.filer asking.moments_are asking.sent_is (ap bytes_sent c.reply_to_target.ensures.beside.0.0) c.send_answer.ensures.files c.as_slice.ensures
     c.send_answer.ensures.sends asking.left_is
 
 pub returns-in-Err-Memory-clause-leads : goal.returns-in-Err-Memory-clause-leads
@@ -49,7 +49,7 @@ returns-in-Err-Memory-clause-leads g c old rest asking =
     asking.asked
     (subst (λ (target : List ℕ). GivesTold moves tears (g.H.Disk.files c.args.world.now.host) (g.C.Clock.moments c.args.world.now.clock) c.args.session.now.filer target (g.H.Disk.files c.reply_to_target.new.disk) (g.C.Clock.moments c.reply_to_target.new.clock) c.reply_to_target.new.filer (Err Memory)) c.target-target.ensures given)
     (λ before after. settles_sent disk.tick disk.images disk.image_since host c.reply_to_target.new.disk c.send_answer-in-Err-Memory.new.host before after c.send_answer-in-Err-Memory.ensures.still)
-    asking.filer asking.moments_are asking.sent_is (ap bytes_sent c.reply_to_target.ensures.sent.0) c.send_answer-in-Err-Memory.ensures.files
+    asking.filer asking.moments_are asking.sent_is (ap bytes_sent c.reply_to_target.ensures.beside.0.0) c.send_answer-in-Err-Memory.ensures.files
     (c.as_slice-in-Err-Memory.ensures ∙ c.args.session.now.standing.memory_is)
     c.send_answer-in-Err-Memory.ensures.sends asking.left_is
 
@@ -71,21 +71,21 @@ returns-in-Err-DiskFault-clause-leads g c old rest asking =
     asking.asked
     (subst (λ (target : List ℕ). GivesTold moves tears (g.H.Disk.files c.args.world.now.host) (g.C.Clock.moments c.args.world.now.clock) c.args.session.now.filer target (g.H.Disk.files c.reply_to_target.new.disk) (g.C.Clock.moments c.reply_to_target.new.clock) c.reply_to_target.new.filer (Err DiskFault)) c.target-target.ensures given)
     (λ before after. tears_sent disk.tick disk.images disk.image_since host c.reply_to_target.new.disk c.send_all.new.host before after c.send_all.ensures.still)
-    asking.filer asking.moments_are asking.sent_is (ap bytes_sent c.reply_to_target.ensures.sent.0) c.send_all.ensures.files
+    asking.filer asking.moments_are asking.sent_is (ap bytes_sent c.reply_to_target.ensures.beside.0.0) c.send_all.ensures.files
     (c.as_slice-in-Err-DiskFault.ensures ∙ c.args.session.now.standing.disk_fault_is)
-    c.send_all.ensures.bytes (subst (λ faults. OnErr c.send_all.result (Rose faults (disk.send_faults c.send_all.new.host))) c.reply_to_target.ensures.sent.1 (failed_in _ _ c.send_all.result c.send_all.ensures.cause)) asking.left_is
+    c.send_all.ensures.bytes (subst (λ faults. OnErr c.send_all.result (Rose faults (disk.send_faults c.send_all.new.host))) c.reply_to_target.ensures.beside.0.1 (failed_in _ _ c.send_all.result c.send_all.ensures.cause)) asking.left_is
 
 pub returns-in-Ok-clause-pieces : goal.returns-in-Ok-clause-pieces
 returns-in-Ok-clause-pieces g c =
     sends_behind (g.H.Disk.tick c.send_answer.new.host) (g.H.Disk.sent c.args.world.now.host) (g.H.Disk.sent c.reply_to_target.new.disk) (g.H.Disk.sent c.send_answer.new.host)
-    c.reply_to_target.ensures.sent.0 c.send_answer.ensures.pieces
+    c.reply_to_target.ensures.beside.0.0 c.send_answer.ensures.pieces
 
 pub returns-in-Err-Memory-clause-pieces : goal.returns-in-Err-Memory-clause-pieces
 returns-in-Err-Memory-clause-pieces g c =
     sends_behind (g.H.Disk.tick c.send_answer-in-Err-Memory.new.host) (g.H.Disk.sent c.args.world.now.host) (g.H.Disk.sent c.reply_to_target.new.disk) (g.H.Disk.sent c.send_answer-in-Err-Memory.new.host)
-    c.reply_to_target.ensures.sent.0 c.send_answer-in-Err-Memory.ensures.pieces
+    c.reply_to_target.ensures.beside.0.0 c.send_answer-in-Err-Memory.ensures.pieces
 
 pub returns-in-Err-DiskFault-clause-pieces : goal.returns-in-Err-DiskFault-clause-pieces
 returns-in-Err-DiskFault-clause-pieces g c =
     sends_behind (g.H.Disk.tick c.send_all.new.host) (g.H.Disk.sent c.args.world.now.host) (g.H.Disk.sent c.reply_to_target.new.disk) (g.H.Disk.sent c.send_all.new.host)
-    c.reply_to_target.ensures.sent.0 c.send_all.ensures.pieces
+    c.reply_to_target.ensures.beside.0.0 c.send_all.ensures.pieces
