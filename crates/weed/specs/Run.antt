@@ -47,12 +47,12 @@ pub record EndsUnread {S : Type 0} (end : Exit) (sent sent' : Option (List Piece
   pub unsent : sent' ≡ sent
   pub unread : source' ≡ source
 
--- A run ends as its session does, or before it. `Cut` says that a send failed, and `Leaves` what came of the run
--- where its own logs are these: those of its session, or none.
-abbrev pub EndsRun : (Cut : Type 0) → Exit → State → List State → State → ((List Record → Type 0) → Type 0) → Type 0
-EndsRun Cut end first path last Leaves =
+-- A run ends as its session does, or before it. `Cut` says that a send failed, `Unread` that nothing was read, and
+-- `Leaves` what came of the run where its own logs are these: those of its session, or none.
+abbrev pub EndsRun : (Cut Unread : Type 0) → Exit → State → List State → State → ((List Record → Type 0) → Type 0) → Type 0
+EndsRun Cut Unread end first path last Leaves =
     (Ends Cut end first path last × Leaves (IsOfRun end first path last))
-    ⊎ (IsEarly end × (path ≡ []) × Rests first last × Leaves (λ _. ⊥))
+    ⊎ (IsEarly end × (path ≡ []) × Rests first last × Unread × Leaves (λ _. ⊥))
 
 -- Where it is damage, its file and place are so.
 abbrev pub IfDamagedExit : (List ℕ → ℕ → Type 0) → Exit → Type 0

@@ -71,8 +71,8 @@ pub fn weed<S: Source, H: Host, C: Clock>(
     ensures answers { (dir : List ℕ) (first : State) → order_of words.now ≡ Ok dir
         → Starts (S.left world.source) (bytes_sent (H.sent world.host)) (H.files world.host) (C.moments world.clock) first
         → (path : List State) × (last : State) × Stands (S.left result.1.source) (bytes_sent (H.sent result.1.host)) (H.files result.1.host) (C.moments result.1.clock) last
-        × EndsRun (Rose (H.send_faults world.host) (H.send_faults result.1.host)) result.0 first path last (λ of_run. IsOwn (H.images world.host)
-        → Survives H.tick H.images H.image_since H.sent world.host result.1.host result.0 first path last of_run)
+        × EndsRun (Rose (H.send_faults world.host) (H.send_faults result.1.host)) (result.1.source ≡ world.source) result.0 first path last (λ of_run.
+            IsOwn (H.images world.host) → Survives H.tick H.images H.image_since H.sent world.host result.1.host result.0 first path last of_run)
         × ReadsNoMore S.left S.reads world.source result.1.source first path }
 
     // Where nothing of the outside failed, the log is one, and fewer than 2^40 requests are answered without
@@ -117,8 +117,8 @@ fn filer_once<S: Source, H: Host, C: Clock>(
 ) -> Exit
     ensures answers { (first : State) → Starts (S.left world.old.source) (bytes_sent (H.sent world.old.host)) (H.files world.old.host) (C.moments world.old.clock) first
         → (path : List State) × (last : State) × Stands (S.left world.new.source) (bytes_sent (H.sent world.new.host)) (H.files world.new.host) (C.moments world.new.clock) last
-        × EndsRun (Rose (H.send_faults world.old.host) (H.send_faults world.new.host)) result first path last (λ of_run. IsOwn (H.images world.old.host)
-        → Survives H.tick H.images H.image_since H.sent world.old.host world.new.host result first path last of_run)
+        × EndsRun (Rose (H.send_faults world.old.host) (H.send_faults world.new.host)) (world.new.source ≡ world.old.source) result first path last (λ of_run.
+            IsOwn (H.images world.old.host) → Survives H.tick H.images H.image_since H.sent world.old.host world.new.host result first path last of_run)
         × ReadsNoMore S.left S.reads world.old.source world.new.source first path }
     ensures unreadable { (files : Files) → H.files world.old.host ≡ Some files → ((records : List Record) → ¬ IsRecordLog files records)
         → EndsUnread result (H.sent world.old.host) (H.sent world.new.host) world.old.source world.new.source }
