@@ -24,7 +24,7 @@ use Rattle.meta_log.specs.Images.{ImagesKeep, AllNear, AreNear}
 use Rattle.meta_log.proofs.RecordCrashes.{keeps_each}
 use Rattle.weed.specs.Handed.{IsSentAt, SendsAt}
 use Rattle.weed.specs.Settling.{IsOneOf, Settling, Tearing}
-use Rattle.weed.specs.Inbox.{NeedsReads}
+use Rattle.weed.specs.Inbox.{ReadsAsNeeded}
 use Rattle.weed.specs.Session.{State, Answers, Turn, Turns, Steps, Rests, SendsUnlessCut, ReadsAlong, ReadsNoMore, EndsAfter, LeadsTo, Stands, disk_answer, last_of, most_turns}
 use Rattle.weed.specs.Tells.{Leads, Ends}
 use Rattle.weed.specs.Crash.{IsPassed, IsOfRun, BeginsWith, KeepsFrom, Withstands}
@@ -325,8 +325,8 @@ ends_after Here Cut cut tick images since sent only_now counts_now start mid now
 
 -- A turn more was read along the path.
 pub reads-push : {S : Type 0} (left : S → Option (List ℕ)) (reads : S → ℕ) (old mid new : S) (first : State) (path : List State) (next : State)
-    → ReadsAlong left reads old mid first path → NeedsReads left reads (Some (last_of first path).left) mid new → ReadsAlong left reads old new first (path ++ next ∷ [])
-reads-push left reads old mid new first [] next along needs = (new, subst (λ source. NeedsReads left reads (Some first.left) source new) along needs, refl)
+    → ReadsAlong left reads old mid first path → ReadsAsNeeded left reads (Some (last_of first path).left) mid new → ReadsAlong left reads old new first (path ++ next ∷ [])
+reads-push left reads old mid new first [] next along needs = (new, subst (λ source. ReadsAsNeeded left reads (Some first.left) source new) along needs, refl)
 reads-push left reads old mid new first (step ∷ later) next along needs = (along.0, along.1, reads-push left reads along.0 mid new step later next along.2 needs)
 
 -- Nothing was read.

@@ -1,5 +1,5 @@
 -- What an inbox holds after a read, and what it finds.
-use Rattle.std.proofs.Common.{◌≡◌, ◌≢◌, ℕ, suc, ◌+◌, ◌-◌, ◌<◌, ◌≤◌, List, [], ◌∷◌, ◌++◌, length, take, drop, codes, Option, Some, None, IfSome, refl, sym, ap, subst, ◌∙◌, arith, append_assoc, inl, inr, ◌⊎◌, ⊎_elim}
+use Rattle.std.proofs.Common.{◌≡◌, ℕ, suc, ◌+◌, ◌-◌, ◌<◌, ◌≤◌, List, [], ◌∷◌, ◌++◌, length, take, drop, codes, Option, Some, None, IfSome, refl, sym, ap, subst, ◌∙◌, arith, append_assoc, inl, inr, ◌⊎◌, ⊎_elim}
 use Rattle.std.specs.Option.{option_map}
 use Rattle.std.proofs.lemmas.Bool.{cases_lt}
 use Rattle.std.proofs.lemmas.List.{length-append, length-drop, take-append-drop, take-append-le, take_at, drop-drop, drop-take}
@@ -9,7 +9,7 @@ use Rattle.memchr.specs.Find.{OccursAt, Nowhere, NoneBefore}
 use Rattle.weed_base.specs.Told.{raised, Consumes, IsAtEnd}
 use Rattle.weed.specs.Request.{IsRequest, host_line}
 use Rattle.weed.specs.HeadEnd.{IsEndAt, HasNoEndBelow, IsHeadLength}
-use Rattle.weed.specs.Inbox.{InboxState, Finds, Takes, Adds, IsNoRequest, LacksHead, IsNeededRead, NeedsSoMany, NeedsReads, left_of}
+use Rattle.weed.specs.Inbox.{InboxState, FindsHead, TakesHead, Adds, IsNoRequest, LacksHead, IsNeededRead, AreNeededReads, ReadsAsNeeded, left_of}
 use Rattle.weed.specs.declared.inbox.Head.{Head}
 use Rattle.weed.specs.declared.inbox.Head.TheVariants.{End, Request, NotYet}
 use Rattle.weed.proofs.ListLemmas.{take-add}
@@ -129,7 +129,7 @@ no_request_without_end pending left none filled reason = (
       reason,
 )
 
-pub finds_head : (head : Head) (old new : InboxState) (count : ℕ) (left : Option (List ℕ)) → IsHeadLength old.pending count → Takes head old new count → Finds head (left_of old.pending left) (left_of new.pending left) new.target
+pub finds_head : (head : Head) (old new : InboxState) (count : ℕ) (left : Option (List ℕ)) → IsHeadLength old.pending count → TakesHead head old new count → FindsHead head (left_of old.pending left) (left_of new.pending left) new.target
 finds_head End old new count left head takes = absurd takes
 finds_head Request old new count left head takes = (take count old.pending, takes.0, consumes left)
   where
@@ -175,33 +175,32 @@ pub none_more : (pending new left : List ℕ) → HasNoEndBelow pending (length 
 none_more pending new left none grown place below stands =
     none place (omega arith) (sym (end-append pending left place (omega arith)) ∙ ap (λ xs. take 3 (drop place xs)) (sym grown) ∙ stands)
 
--- one needed read more
-needed : {S : Type 0} (left : S → Option (List ℕ)) (reads : S → ℕ) (all : Option (List ℕ)) (mid new : S) (ahead : List ℕ)
-    → left_of ahead (left mid) ≡ all → LacksHead ahead → reads new ≡ raised (reads mid) → IsNeededRead left reads all mid new
-needed left reads all mid new ahead came lacks once = record { ahead = ahead; came = sym came; lacks = lacks; once = once }
+-- a read that left all there gave nothing
+pub gives_nothing : (old new : Option (List ℕ)) → new ≡ old → Consumes old new []
+gives_nothing old None same = sym same
+gives_nothing old (Some rest) same = sym same
 
--- a read that gave bytes was before the end
-before_end : (bytes : List ℕ) (old new : Option (List ℕ)) (count : ℕ) → length bytes ≡ count → (count ≡ 0 → ⊥) → Consumes old new bytes → old ≢ Some []
-before_end [] old new count size some took ended = some (sym size)
-before_end (byte ∷ bytes) old None count size some took ended = let none : Some [] ≡ None = sym ended ∙ took in cc
-before_end (byte ∷ bytes) old (Some rest) count size some took ended = let none : Some [] ≡ Some (byte ∷ bytes ++ rest) = sym ended ∙ took in cc
+-- one needed read more
+abbrev needed : {S : Type 0} (left : S → Option (List ℕ)) (reads : S → ℕ) (all : Option (List ℕ)) (mid new : S) (ahead bytes : List ℕ)
+    → left_of ahead (left mid) ≡ all → LacksHead ahead → reads new ≡ raised (reads mid) → Consumes (left mid) (left new) bytes → IsNeededRead left reads all mid new
+needed left reads all mid new ahead bytes came lacks once took = record { ahead = ahead; came = sym came; lacks = lacks; once = once; gave = bytes; took = took }
 
 pub needs_more : {S : Type 0} (left : S → Option (List ℕ)) (reads : S → ℕ) (all : Option (List ℕ)) (old mid new : S) (ahead bytes : List ℕ) (gave : ℕ)
-    → (count : ℕ) × NeedsSoMany left reads all count old mid → left_of ahead (left mid) ≡ all → LacksHead ahead → reads new ≡ raised (reads mid)
+    → (count : ℕ) × AreNeededReads left reads all count old mid → left_of ahead (left mid) ≡ all → LacksHead ahead → reads new ≡ raised (reads mid)
     → length bytes ≡ gave → (gave ≡ 0 → ⊥) → Consumes (left mid) (left new) bytes
-    → (count : ℕ) × NeedsSoMany left reads all count old new
+    → (count : ℕ) × AreNeededReads left reads all count old new
 needs_more left reads all old mid new ahead bytes gave before came lacks once size some took =
-    (suc before.0, (mid, before.1, needed left reads all mid new ahead came lacks once, before_end bytes (left mid) (left new) gave size some took))
+    (suc before.0, (mid, before.1, needed left reads all mid new ahead bytes came lacks once took, λ none. some (sym size ∙ ap length none)))
 
 -- the reads that were needed, and one more at the end of it
-pub needs_last : {S : Type 0} (left : S → Option (List ℕ)) (reads : S → ℕ) (all : Option (List ℕ)) (old mid new : S) (ahead : List ℕ)
-    → (count : ℕ) × NeedsSoMany left reads all count old mid → left_of ahead (left mid) ≡ all → LacksHead ahead → reads new ≡ raised (reads mid)
-    → NeedsReads left reads all old new
-needs_last left reads all old mid new ahead before came lacks once = (before.0, mid, before.1, inr (needed left reads all mid new ahead came lacks once))
+pub needs_last : {S : Type 0} (left : S → Option (List ℕ)) (reads : S → ℕ) (all : Option (List ℕ)) (old mid new : S) (ahead bytes : List ℕ)
+    → (count : ℕ) × AreNeededReads left reads all count old mid → left_of ahead (left mid) ≡ all → LacksHead ahead → reads new ≡ raised (reads mid)
+    → Consumes (left mid) (left new) bytes → ReadsAsNeeded left reads all old new
+needs_last left reads all old mid new ahead bytes before came lacks once took = (before.0, mid, before.1, inr (needed left reads all mid new ahead bytes came lacks once took))
 
 pub needs_none : {S : Type 0} (left : S → Option (List ℕ)) (reads : S → ℕ) (all : Option (List ℕ)) (old new : S)
-    → (count : ℕ) × NeedsSoMany left reads all count old new → NeedsReads left reads all old new
+    → (count : ℕ) × AreNeededReads left reads all count old new → ReadsAsNeeded left reads all old new
 needs_none left reads all old new before = (before.0, new, before.1, inl refl)
 
-pub needs_nothing : {S : Type 0} (left : S → Option (List ℕ)) (reads : S → ℕ) (all : Option (List ℕ)) (source : S) → NeedsReads left reads all source source
+pub needs_nothing : {S : Type 0} (left : S → Option (List ℕ)) (reads : S → ℕ) (all : Option (List ℕ)) (source : S) → ReadsAsNeeded left reads all source source
 needs_nothing left reads all source = (0, source, refl, inl refl)

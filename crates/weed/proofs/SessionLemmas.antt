@@ -10,7 +10,7 @@ use Rattle.meta_log.specs.declared.meta_log.MetaLog.{MetaLog}
 use Rattle.meta_log.specs.declared.stem.Stem.{Stem}
 use Rattle.meta_log.specs.LogText.{IsAllowed, HasSegment}
 use Rattle.meta_log.specs.Kept.{IsKept, IsRecordLog}
-use Rattle.weed.specs.Inbox.{left_of, IsNoRequest, Finds}
+use Rattle.weed.specs.Inbox.{left_of, IsNoRequest, FindsHead}
 use Rattle.weed.specs.Written.{WritesAll}
 use Rattle.weed.specs.declared.inbox.Head.{Head}
 use Rattle.weed.specs.declared.inbox.Head.TheVariants.{End, Request, NotYet}
@@ -187,11 +187,11 @@ faulted_leads Cut Moves Tears Sent Torn old rest target left sent sent' sent'' f
 -- What was found in front of the input
 pub asking_found : (old : State) (left left' sent : Option (List ℕ)) (files : Option Files) (clock : Option (List ℕ)) (session session' : Session) (head : Head)
     → Tells left sent files clock session old → head ≡ Request
-    → Finds head (left_of session.inbox.pending left) (left_of session'.inbox.pending left') session'.inbox.target
+    → FindsHead head (left_of session.inbox.pending left) (left_of session'.inbox.pending left') session'.inbox.target
     → session'.filer ≡ session.filer
     → (rest : List ℕ) × Asking old rest left' sent files clock session'
 asking_found old left left' sent files clock session session' head tells is finds same =
-    let found = subst (λ (h : Head). Finds h (left_of session.inbox.pending left) (left_of session'.inbox.pending left') session'.inbox.target) is finds in
+    let found = subst (λ (h : Head). FindsHead h (left_of session.inbox.pending left) (left_of session'.inbox.pending left') session'.inbox.target) is finds in
     let took = consumed_told (left_of session.inbox.pending left) (left_of session'.inbox.pending left') old.left found.0 tells.left_is found.2 in (
       took.0,
       record {
@@ -205,12 +205,12 @@ asking_found old left left' sent files clock session session' head tells is find
 
 pub refused_leads : (Cut : Type 0) (Moves Tears : List Record → Type 0) (old : State) (left left' sent sent' : Option (List ℕ)) (files files' : Option Files) (clock : Option (List ℕ)) (session session' : Session) (head : Head) (answer : List ℕ) (turned : Turned)
     → Tells left sent files clock session old → head ≡ NotYet
-    → Finds head (left_of session.inbox.pending left) (left_of session'.inbox.pending left') session'.inbox.target
+    → FindsHead head (left_of session.inbox.pending left) (left_of session'.inbox.pending left') session'.inbox.target
     → session'.filer ≡ session.filer → files' ≡ files → answer ≡ not_yet_answer
     → Sends answer true sent sent' turned → Moves old.log
     → Leads Cut old Moves Tears left' sent' files' clock session' turned
 refused_leads Cut Moves Tears old left left' sent sent' files files' clock session session' head answer turned tells is finds same same_files answer_is sends moves =
-    let found = subst (λ (h : Head). Finds h (left_of session.inbox.pending left) (left_of session'.inbox.pending left') session'.inbox.target) is finds in
+    let found = subst (λ (h : Head). FindsHead h (left_of session.inbox.pending left) (left_of session'.inbox.pending left') session'.inbox.target) is finds in
     sent_leads Cut old old.left answer true old.log old.moments Moves Tears left' sent sent' files' clock session' turned
     (inr (inr (record { asked = subst (λ o. IfSome o IsNoRequest) tells.left_is found.0; rest_is = refl; answer_is = answer_is; closes_is = refl; log_is = refl; moments_are = refl })))
     tells.sent_is sends (found.1 ∙ tells.left_is)
@@ -231,10 +231,10 @@ at_end old told is end =
 
 pub ended_leads : (Cut : Type 0) (Moves Tears : List Record → Type 0) (old : State) (left left' sent : Option (List ℕ)) (files : Option Files) (clock : Option (List ℕ)) (session session' : Session) (head : Head)
     → Tells left sent files clock session old → head ≡ End
-    → Finds head (left_of session.inbox.pending left) (left_of session'.inbox.pending left') session'.inbox.target → Moves old.log
+    → FindsHead head (left_of session.inbox.pending left) (left_of session'.inbox.pending left') session'.inbox.target → Moves old.log
     → Leads Cut old Moves Tears left' sent files clock session' (Ended exit.Done)
 ended_leads Cut Moves Tears old left left' sent files clock session session' head tells is finds moves =
-    let found = subst (λ (h : Head). Finds h (left_of session.inbox.pending left) (left_of session'.inbox.pending left') session'.inbox.target) is finds in
+    let found = subst (λ (h : Head). FindsHead h (left_of session.inbox.pending left) (left_of session'.inbox.pending left') session'.inbox.target) is finds in
     (old, rests old left left' sent files clock session tells (session'.inbox.pending, found.1 ∙ tells.left_is), inl (at_end old.left (left_of session.inbox.pending left) tells.left_is found.0, same_rests old), moves)
 
 pub unread_leads : (Cut : Type 0) (Moves Tears : List Record → Type 0) (old : State) (left left' sent : Option (List ℕ)) (files : Option Files) (clock : Option (List ℕ)) (session session' : Session)

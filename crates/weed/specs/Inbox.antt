@@ -1,5 +1,5 @@
 -- The bytes that were read ahead of their use, and what stands at the front of all that is left.
-use Rattle.std.specs.Prelude.{◌≡◌, ◌≢◌, ◌⊎◌, ℕ, zero, suc, ◌<◌, List, [], ◌++◌, length, take, drop, Option, Some, IfSome}
+use Rattle.std.specs.Prelude.{◌≡◌, ◌≢◌, ◌⊎◌, ℕ, zero, suc, ◌<◌, List, [], ◌++◌, length, take, drop, Option, IfSome}
 use Rattle.std.specs.Option.{option_map}
 use Rattle.weed_base.specs.Told.{raised, Consumes, IsAtEnd}
 use Rattle.weed.specs.HeadEnd.{HasNoEndBelow}
@@ -25,35 +25,39 @@ pub record LacksHead (bytes : List ℕ) : Type 0 where
   pub none : HasNoEndBelow bytes (length bytes)
   pub short : length bytes < 16384
 
--- of all these bytes, those in front of what the source had left lacked a head, and it was read once
+-- of all these bytes, those in front of what the source had left lacked a head; it was read once, and lost the bytes
+-- that this gave
 pub record IsNeededRead {S : Type 0} (left : S → Option (List ℕ)) (reads : S → ℕ) (all : Option (List ℕ)) (old new : S) : Type 0 where
   pub ahead : List ℕ
   pub came : Consumes all (left old) ahead
   pub lacks : LacksHead ahead
   pub once : reads new ≡ raised (reads old)
+  pub gave : List ℕ
+  pub took : Consumes (left old) (left new) gave
 
--- it was read so often, each time so, and each time before its end
-abbrev pub NeedsSoMany : {S : Type 0} → (S → Option (List ℕ)) → (S → ℕ) → Option (List ℕ) → ℕ → S → S → Type 0
-NeedsSoMany left reads all zero old new = new ≡ old
-NeedsSoMany {S = S} left reads all (suc count) old new = (mid : S) × NeedsSoMany left reads all count old mid × IsNeededRead left reads all mid new × (left mid ≢ Some [])
+-- it was read so often, each time so, and each time it gave something
+abbrev pub AreNeededReads : {S : Type 0} → (S → Option (List ℕ)) → (S → ℕ) → Option (List ℕ) → ℕ → S → S → Type 0
+AreNeededReads left reads all zero old new = new ≡ old
+AreNeededReads {S = S} left reads all (suc count) old new =
+    (mid : S) × AreNeededReads left reads all count old mid × (read : IsNeededRead left reads all mid new) × (read.gave ≢ [])
 
 -- it was read no more often than it took to tell what stands at the front of all the bytes that were left: no read
--- came behind one at the end
-abbrev pub NeedsReads : {S : Type 0} → (S → Option (List ℕ)) → (S → ℕ) → Option (List ℕ) → S → S → Type 0
-NeedsReads {S = S} left reads all old new =
-    (count : ℕ) × (mid : S) × NeedsSoMany left reads all count old mid × ((new ≡ mid) ⊎ IsNeededRead left reads all mid new)
+-- came behind one that gave nothing
+abbrev pub ReadsAsNeeded : {S : Type 0} → (S → Option (List ℕ)) → (S → ℕ) → Option (List ℕ) → S → S → Type 0
+ReadsAsNeeded {S = S} left reads all old new =
+    (count : ℕ) × (mid : S) × AreNeededReads left reads all count old mid × ((new ≡ mid) ⊎ IsNeededRead left reads all mid new)
 
 -- what stood at the front of the bytes left: nothing, a request, which was taken, or something else
-abbrev pub Finds : Head → Option (List ℕ) → Option (List ℕ) → List ℕ → Type 0
-Finds End old new target = IsAtEnd old × (new ≡ old)
-Finds Request old new target = (text : List ℕ) × IsRequest text target × Consumes old new text
-Finds NotYet old new target = IfSome old IsNoRequest × (new ≡ old)
+abbrev pub FindsHead : Head → Option (List ℕ) → Option (List ℕ) → List ℕ → Type 0
+FindsHead End old new target = IsAtEnd old × (new ≡ old)
+FindsHead Request old new target = (text : List ℕ) × IsRequest text target × Consumes old new text
+FindsHead NotYet old new target = IfSome old IsNoRequest × (new ≡ old)
 
 -- the same of so many first bytes of an inbox
-abbrev pub Takes : Head → InboxState → InboxState → ℕ → Type 0
-Takes End old new count = ⊥
-Takes Request old new count = IsRequest (take count old.pending) new.target × (new.pending ≡ drop count old.pending)
-Takes NotYet old new count = ((target : List ℕ) → ¬ IsRequest (take count old.pending) target) × (new ≡ old)
+abbrev pub TakesHead : Head → InboxState → InboxState → ℕ → Type 0
+TakesHead End old new count = ⊥
+TakesHead Request old new count = IsRequest (take count old.pending) new.target × (new.pending ≡ drop count old.pending)
+TakesHead NotYet old new count = ((target : List ℕ) → ¬ IsRequest (take count old.pending) target) × (new ≡ old)
 
 -- bytes of the source were added, none only at its end
 abbrev pub Adds : List ℕ → List ℕ → Option (List ℕ) → Option (List ℕ) → ℕ → Type 0

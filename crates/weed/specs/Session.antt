@@ -5,7 +5,7 @@ use Rattle.weed_base.specs.Moments.{first_moment, later_moments}
 use Rattle.name_core.specs.declared.change.Record.{Record}
 use Rattle.meta_log.specs.Kept.{IsRecordLog}
 use Rattle.weed.specs.Request.{IsRequest}
-use Rattle.weed.specs.Inbox.{left_of, IsNoRequest, NeedsReads}
+use Rattle.weed.specs.Inbox.{left_of, IsNoRequest, ReadsAsNeeded}
 use Rattle.weed.specs.Reply.{Answering, IsReply, moments_after}
 use Rattle.weed.specs.Answer.{refused_text}
 use Rattle.weed.specs.declared.answer.Status.TheVariants.{InternalServerError, NotImplemented, ServiceUnavailable}
@@ -94,12 +94,12 @@ last_of first (next ∷ later) = last_of next later
 -- A source was read along a path, in each turn no more often than it took to tell what stood at the front.
 abbrev pub ReadsAlong : {S : Type 0} → (S → Option (List ℕ)) → (S → ℕ) → S → S → State → List State → Type 0
 ReadsAlong left reads old new first [] = new ≡ old
-ReadsAlong {S = S} left reads old new first (next ∷ later) = (mid : S) × NeedsReads left reads (Some first.left) old mid × ReadsAlong left reads mid new next later
+ReadsAlong {S = S} left reads old new first (next ∷ later) = (mid : S) × ReadsAsNeeded left reads (Some first.left) old mid × ReadsAlong left reads mid new next later
 
 -- The same along a path and at its end
 abbrev pub ReadsNoMore : {S : Type 0} → (S → Option (List ℕ)) → (S → ℕ) → S → S → State → List State → Type 0
 ReadsNoMore {S = S} left reads old new first path =
-    (mid : S) × ReadsAlong left reads old mid first path × NeedsReads left reads (Some (last_of first path).left) mid new
+    (mid : S) × ReadsAlong left reads old mid first path × ReadsAsNeeded left reads (Some (last_of first path).left) mid new
 
 -- Nothing more was taken, sent, appended or asked for.
 pub record Rests (old last : State) : Type 0 where

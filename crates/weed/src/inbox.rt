@@ -2,7 +2,7 @@ ghost use Rattle.std.specs.Prelude.{◌≡◌, ◌+◌, ◌-◌, ◌<◌, ◌≤
 ghost use Rattle.weed_base.specs.Told.{raised, Reads, Consumes, IsAtEnd, HasCause};
 ghost use Rattle.weed.specs.Span.{part_at};
 ghost use Rattle.weed.specs.HeadEnd.{HasNoEndBelow, IsHeadLength};
-ghost use Rattle.weed.specs.Inbox.{left_of, LacksHead, NeedsReads, Finds, Takes, Adds};
+ghost use Rattle.weed.specs.Inbox.{left_of, LacksHead, ReadsAsNeeded, FindsHead, TakesHead, Adds};
 
 use crate::request::{MAX_HEAD, read_request};
 use memchr::memmem;
@@ -83,7 +83,7 @@ impl Inbox {
     /// Takes so many first bytes, where they are a request.
     fn take_head(&mut self, count: usize) -> Head
         requires { count ≤ length self.old.pending }
-        ensures { Takes result self.old self.new count }
+        ensures { TakesHead result self.old self.new count }
     {
         let Some(target) = read_request(&self.pending()[..count]) else {
             return Head::NotYet;
@@ -114,9 +114,9 @@ impl Inbox {
 /// there. Takes no memory.
 pub fn next_head<S: Source>(from: &mut S, inbox: &mut Inbox) -> Result<Head, Failed>
     ensures head { MatchResult result
-        (λ head. Finds head (left_of inbox.old.pending (S.left from.old)) (left_of inbox.new.pending (S.left from.new)) inbox.new.target)
+        (λ head. FindsHead head (left_of inbox.old.pending (S.left from.old)) (left_of inbox.new.pending (S.left from.new)) inbox.new.target)
         (λ _. left_of inbox.new.pending (S.left from.new) ≡ left_of inbox.old.pending (S.left from.old)) }
-    ensures needed { NeedsReads S.left S.reads (left_of inbox.old.pending (S.left from.old)) from.old from.new }
+    ensures needed { ReadsAsNeeded S.left S.reads (left_of inbox.old.pending (S.left from.old)) from.old from.new }
     ensures at_hand { ¬ LacksHead inbox.old.pending → from.new ≡ from.old }
     ensures cause { HasCause (S.faults from.old) (S.faults from.new) result }
 {

@@ -8,7 +8,7 @@ ghost use Rattle.weed.specs.Causes.{IsCauseBeside};
 ghost use Rattle.weed.specs.Crash.{Withstands};
 ghost use Rattle.weed.specs.Filer.{HoldsFiler};
 ghost use Rattle.weed.specs.Handed.{SendsAt};
-ghost use Rattle.weed.specs.Inbox.{left_of, NeedsReads};
+ghost use Rattle.weed.specs.Inbox.{left_of, ReadsAsNeeded};
 ghost use Rattle.weed.specs.Session.{State, Stands, ReadsNoMore};
 ghost use Rattle.weed.specs.Settling.{Settling, Tearing};
 ghost use Rattle.weed.specs.Tells.{Sends, Tells, Asking, Leads, Ends, IsTurnEnd, IsSessionEnd};
@@ -97,7 +97,7 @@ fn turn<S: Source, H: Host, C: Clock>(
     ensures leads { (old : State) → Tells (S.left world.old.source) (bytes_sent (H.sent world.old.host)) (H.files world.old.host) (C.moments world.old.clock) session.old old
         → Leads (Rose (H.send_faults world.old.host) (H.send_faults world.new.host)) old (Settling H.tick H.images H.image_since world.old.host world.new.host old.log) (Tearing H.tick H.images H.image_since world.old.host world.new.host old.log)
         (S.left world.new.source) (bytes_sent (H.sent world.new.host)) (H.files world.new.host) (C.moments world.new.clock) session.new result }
-    ensures needed { NeedsReads S.left S.reads (left_of session.old.inbox.pending (S.left world.old.source)) world.old.source world.new.source }
+    ensures needed { ReadsAsNeeded S.left S.reads (left_of session.old.inbox.pending (S.left world.old.source)) world.old.source world.new.source }
     ensures pieces { SendsAt (H.tick world.new.host) (H.sent world.old.host) (H.sent world.new.host) }
     ensures held { result ≡ Turned.Open → (records : List Record) × HoldsFiler (H.files world.new.host) session.new.filer records }
     ensures disk { IsCauseOf (H.faults world.old.host) (H.faults world.new.host) (result ≡ Turned.Ended Exit.DiskFault) }

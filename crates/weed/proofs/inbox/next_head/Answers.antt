@@ -1,9 +1,9 @@
-use Rattle.std.proofs.Common.{List, ℕ, Option, ◌<◌, ◌≤◌, length, ap, subst, ◌∙◌, IfSome, arith}
+use Rattle.std.proofs.Common.{List, [], ℕ, Option, ◌<◌, ◌≤◌, length, ap, subst, ◌∙◌, IfSome, arith}
 use Rattle.std.proofs.lemmas.List.{length-append}
 use Rattle.weed.specs.HeadEnd.{HasNoEndBelow, IsHeadLength}
-use Rattle.weed.specs.Inbox.{InboxState, Finds, IsNoRequest, LacksHead, left_of}
+use Rattle.weed.specs.Inbox.{InboxState, FindsHead, IsNoRequest, LacksHead, left_of}
 use Rattle.weed.proofs.HeadLemmas.{end_fits}
-use Rattle.weed.proofs.InboxLemmas.{finds_head, none_long, none_at_end, left_of_adds, ended_before, none_more, needs_more, needs_last, needs_none}
+use Rattle.weed.proofs.InboxLemmas.{finds_head, none_long, none_at_end, left_of_adds, ended_before, none_more, gives_nothing, needs_more, needs_last, needs_none}
 use Rattle.weed.proofs.inbox.next_head.Goals as goal
 
 pub take_head-requires : goal.take_head-requires
@@ -18,7 +18,7 @@ returns-in-Some-clause-head g c =
     let after = c.take_head.new.self in
     let head = subst (λ xs. IsHeadLength xs c.in-Some.count) c.pending.ensures c.in-Some.ensures.found in
     let found = finds_head c.take_head.result c.loop-count.inbox after c.in-Some.count left head c.take_head.ensures in
-    subst (λ (old : Option (List ℕ)). Finds c.take_head.result old (left_of after.pending left) after.target) c.loop-count.invariant.left found
+    subst (λ (old : Option (List ℕ)). FindsHead c.take_head.result old (left_of after.pending left) after.target) c.loop-count.invariant.left found
 
 pub returns-then-count-ge-MAX_HEAD-clause-head : goal.returns-then-count-ge-MAX_HEAD-clause-head
 returns-then-count-ge-MAX_HEAD-clause-head g c =
@@ -67,24 +67,25 @@ returns-in_err-fill-clause-needed g c =
     let pending = c.loop-count.inbox.pending in
     let none : HasNoEndBelow pending (length pending) = subst (λ xs. HasNoEndBelow xs (length xs)) c.pending.ensures c.in_default.ensures.none in
     let lacks : LacksHead pending = record { none = none; short = omega (arith, c.if-count-ge-MAX_HEAD.false, ap length c.pending-count.ensures) } in
-    needs_last g.S.Source.left g.S.Source.reads (left_of c.args.inbox.now.pending (g.S.Source.left c.args.from.now)) c.args.from.now c.loop-count.from c.fill.new.from pending
+    needs_last g.S.Source.left g.S.Source.reads (left_of c.args.inbox.now.pending (g.S.Source.left c.args.from.now)) c.args.from.now c.loop-count.from c.fill.new.from pending []
     c.loop-count.invariant.needed c.loop-count.invariant.left lacks c.in_err-fill.ensures.once
+    (gives_nothing (g.S.Source.left c.loop-count.from) (g.S.Source.left c.fill.new.from) c.in_err-fill.ensures.bytes.1)
 
 pub returns-then-count-eq0-clause-needed : goal.returns-then-count-eq0-clause-needed
 returns-then-count-eq0-clause-needed g c =
     let pending = c.loop-count.inbox.pending in
     let none : HasNoEndBelow pending (length pending) = subst (λ xs. HasNoEndBelow xs (length xs)) c.pending.ensures c.in_default.ensures.none in
     let lacks : LacksHead pending = record { none = none; short = omega (arith, c.if-count-ge-MAX_HEAD.false, ap length c.pending-count.ensures) } in
-    needs_last g.S.Source.left g.S.Source.reads (left_of c.args.inbox.now.pending (g.S.Source.left c.args.from.now)) c.args.from.now c.loop-count.from c.fill.new.from pending
-    c.loop-count.invariant.needed c.loop-count.invariant.left lacks c.in_ok-fill.ensures.once
+    needs_last g.S.Source.left g.S.Source.reads (left_of c.args.inbox.now.pending (g.S.Source.left c.args.from.now)) c.args.from.now c.loop-count.from c.fill.new.from pending c.in_ok-fill.ensures.bytes.0
+    c.loop-count.invariant.needed c.loop-count.invariant.left lacks c.in_ok-fill.ensures.once c.in_ok-fill.ensures.bytes.3
 
 pub returns-else-count-eq0-clause-needed : goal.returns-else-count-eq0-clause-needed
 returns-else-count-eq0-clause-needed g c =
     let pending = c.loop-count.inbox.pending in
     let none : HasNoEndBelow pending (length pending) = subst (λ xs. HasNoEndBelow xs (length xs)) c.pending.ensures c.in_default.ensures.none in
     let lacks : LacksHead pending = record { none = none; short = omega (arith, c.if-count-ge-MAX_HEAD.false, ap length c.pending-count.ensures) } in
-    needs_last g.S.Source.left g.S.Source.reads (left_of c.args.inbox.now.pending (g.S.Source.left c.args.from.now)) c.args.from.now c.loop-count.from c.fill.new.from pending
-    c.loop-count.invariant.needed c.loop-count.invariant.left lacks c.in_ok-fill.ensures.once
+    needs_last g.S.Source.left g.S.Source.reads (left_of c.args.inbox.now.pending (g.S.Source.left c.args.from.now)) c.args.from.now c.loop-count.from c.fill.new.from pending c.in_ok-fill.ensures.bytes.0
+    c.loop-count.invariant.needed c.loop-count.invariant.left lacks c.in_ok-fill.ensures.once c.in_ok-fill.ensures.bytes.3
 
 pub returns-in-Some-clause-needed : goal.returns-in-Some-clause-needed
 returns-in-Some-clause-needed g c =

@@ -2,7 +2,7 @@ use Rattle.std.proofs.Common.{Some, ◌≡◌, ◌<◌, ◌+◌, ◌∙◌, ◌+
 use Rattle.std.proofs.lemmas.List.{length_push}
 use Rattle.weed_base.specs.Told.{Rose}
 use Rattle.weed_base.specs.Sent.{bytes_sent}
-use Rattle.weed.specs.Inbox.{NeedsReads}
+use Rattle.weed.specs.Inbox.{ReadsAsNeeded}
 use Rattle.weed.specs.Session.{State, Turn, last_of, most_turns}
 use Rattle.weed.specs.declared.exit.Exit.TheVariants.{DiskFault, ReadFault, WriteFault}
 use Rattle.weed.proofs.SessionLemmas.{rests, open_is_no_end}
@@ -41,7 +41,7 @@ loop-turn-preserved g c =
             length_push before.0 turn.0 ∙ ap (λ n. n + 1) before.3,
             λ keep. keeping_more disk.tick disk.images disk.image_since disk.sent g.met.H.Disk.only_now start mid now first before.0 (before.4 keep) turn.0 turn.2 turn.3 c.in-Open.ensures.pieces before.1.sent_is,
             reads-push source.left source.reads c.args.world.now.source c.loop-turn.world.source c.turn.new.world.source first before.0 turn.0 before.5
-                (subst (λ all. NeedsReads source.left source.reads all c.loop-turn.world.source c.turn.new.world.source) before.1.left_is c.in-Open.ensures.needed),
+                (subst (λ all. ReadsAsNeeded source.left source.reads all c.loop-turn.world.source c.turn.new.world.source) before.1.left_is c.in-Open.ensures.needed),
           );
       faults = c.in-Open.ensures.disk.quiet (open_is_no_end DiskFault) ∙ c.loop-turn.invariant.faults;
       read_faults = c.in-Open.ensures.read.quiet (open_is_no_end ReadFault) ∙ c.loop-turn.invariant.read_faults;
@@ -70,7 +70,7 @@ returns-in-Ended-clause-ends g c first tells =
       (
         c.loop-turn.world.source,
         before.5,
-        subst (λ all. NeedsReads source.left source.reads all c.loop-turn.world.source c.turn.new.world.source) before.1.left_is c.in-Ended.ensures.needed,
+        subst (λ all. ReadsAsNeeded source.left source.reads all c.loop-turn.world.source c.turn.new.world.source) before.1.left_is c.in-Ended.ensures.needed,
       ),
     )
 
