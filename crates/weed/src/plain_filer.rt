@@ -81,7 +81,8 @@ impl PlainFiler {
         // A crash at any moment leaves the records of an image that was there before; after `Ok` those that
         // the disk has. A disk of one's own is never damaged.
         ensures atomic { (files : Files) → D.files disk.old ≡ Some files → LeavesOnly D.tick D.image_since disk.old disk.new (HasLogOf (D.images disk.old)) }
-        ensures settled { IfOk result (λ _. (files : Files) (records : List Record) → D.files disk.old ≡ Some files → IsRecordLog files records → ImagesKeep (D.images disk.new) records) }
+        ensures settled { IfOk result (λ _. (files : Files) (records : List Record) → D.files disk.old ≡ Some files
+            → IsRecordLog files records → ImagesKeep (D.images disk.new) records) }
         ensures own { (files : Files) → D.files disk.old ≡ Some files → IsOwn (D.images disk.old) → IfErr result (IfDamaged (λ _ _. ⊥)) }
 
         ensures cause { IsCauseOf (D.faults disk.old) (D.faults disk.new) (IsErrOf result LogFault.DiskFault) }
@@ -107,7 +108,8 @@ impl PlainFiler {
             → Makes (plan_of (fold records) (MakeDir path) moment (last_time records)) records (D.files disk.new) self.new result) }
         ensures images { (files : Files) (records : List Record) → D.files disk.old ≡ Some files → IsFiled files self.old records
             → MakesImages (plan_of (fold records) (MakeDir path) moment (last_time records))
-            (Settling D.tick D.images D.image_since disk.old disk.new records) (Tearing D.tick D.images D.image_since disk.old disk.new records) records result }
+            (Settling D.tick D.images D.image_since disk.old disk.new records)
+            (Tearing D.tick D.images D.image_since disk.old disk.new records) records result }
         ensures cause { IsCauseOf (D.faults disk.old) (D.faults disk.new) (IsErrOf result MakeFault.DiskFault) }
         ensures held { ¬ (IsErrOf result MakeFault.DiskFault) → (records : List Record) × HoldsFiler (D.files disk.new) self.new records }
         ensures beside { StaysBeside D.sent D.send_faults D.attachment disk.old disk.new }

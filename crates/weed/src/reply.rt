@@ -121,7 +121,8 @@ pub fn reply_to_target<D: Disk, C: Clock>(
     requires { (records : List Record) × HoldsFiler (D.files disk.old) filer.old records }
     ensures gives { (files : Files) (moments : List ℕ) (records : List Record) → D.files disk.old ≡ Some files → C.moments clock.old ≡ Some moments
         → IsFiled files filer.old records
-        → Gives records moments target.now (Settling D.tick D.images D.image_since disk.old disk.new records) (Tearing D.tick D.images D.image_since disk.old disk.new records)
+        → Gives records moments target.now
+        (Settling D.tick D.images D.image_since disk.old disk.new records) (Tearing D.tick D.images D.image_since disk.old disk.new records)
         (D.files disk.new) (C.moments clock.new) filer.new result }
     ensures held { ¬ (IsErrOf result ReplyFault.DiskFault) → (records : List Record) × HoldsFiler (D.files disk.new) filer.new records }
     ensures cause { IsCauseOf (D.faults disk.old) (D.faults disk.new) (IsErrOf result ReplyFault.DiskFault) }
@@ -145,7 +146,8 @@ fn reply_to_path<D: Disk, C: Clock>(
     requires { (records : List Record) × HoldsFiler (D.files disk.old) filer.old records }
     ensures gives { (files : Files) (moments : List ℕ) (records : List Record) → D.files disk.old ≡ Some files → C.moments clock.old ≡ Some moments
         → IsFiled files filer.old records
-        → GivesFor path records moments (Settling D.tick D.images D.image_since disk.old disk.new records) (Tearing D.tick D.images D.image_since disk.old disk.new records)
+        → GivesFor path records moments
+        (Settling D.tick D.images D.image_since disk.old disk.new records) (Tearing D.tick D.images D.image_since disk.old disk.new records)
         (D.files disk.new) (C.moments clock.new) filer.new result }
     ensures held { ¬ (IsErrOf result ReplyFault.DiskFault) → (records : List Record) × HoldsFiler (D.files disk.new) filer.new records }
     ensures cause { IsCauseOf (D.faults disk.old) (D.faults disk.new) (IsErrOf result ReplyFault.DiskFault) }

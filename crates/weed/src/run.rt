@@ -70,9 +70,10 @@ pub fn weed<S: Source, H: Host, C: Clock>(
 ) -> (Exit, World<S, H, C>)
     ensures answers { (dir : List ℕ) (first : State) → order_of words.now ≡ Ok dir
         → Starts (S.left world.source) (bytes_sent (H.sent world.host)) (H.files world.host) (C.moments world.clock) first
-        → (path : List State) × (last : State) × Stands (S.left result.1.source) (bytes_sent (H.sent result.1.host)) (H.files result.1.host) (C.moments result.1.clock) last
+        → (path : List State) × (last : State)
+        × Stands (S.left result.1.source) (bytes_sent (H.sent result.1.host)) (H.files result.1.host) (C.moments result.1.clock) last
         × EndsRun (Rose (H.send_faults world.host) (H.send_faults result.1.host)) (result.1.source ≡ world.source) result.0 first path last (λ of_run.
-            IsOwn (H.images world.host) → Survives H.tick H.images H.image_since H.sent world.host result.1.host result.0 first path last of_run)
+        IsOwn (H.images world.host) → Survives H.tick H.images H.image_since H.sent world.host result.1.host result.0 first path last of_run)
         × ReadsNoMore S.left S.reads world.source result.1.source first path }
 
     // Where nothing of the outside failed, the log is one, and fewer than 2^40 requests are answered without
@@ -85,10 +86,12 @@ pub fn weed<S: Source, H: Host, C: Clock>(
 
     // Over files that are no log the run ends before it reads or sends anything.
     ensures unreadable { (dir : List ℕ) (files : Files) → order_of words.now ≡ Ok dir → H.files world.host ≡ Some files
-        → ((records : List Record) → ¬ IsRecordLog files records) → EndsUnread result.0 (H.sent world.host) (H.sent result.1.host) world.source result.1.source }
+        → ((records : List Record) → ¬ IsRecordLog files records)
+        → EndsUnread result.0 (H.sent world.host) (H.sent result.1.host) world.source result.1.source }
     ensures words { (place : ℕ) → (result.0 ≡ Exit.BadWords place) ↔ (order_of words.now ≡ Err place) }
     ensures untouched { (place : ℕ) → order_of words.now ≡ Err place → result.1 ≡ world }
-    ensures damaged { IfDamagedExit (λ file at. IfSome (H.files world.host) (λ files. IsRecordDamage files file at) × (H.files result.1.host ≡ H.files world.host)) result.0 }
+    ensures damaged { IfDamagedExit
+        (λ file at. IfSome (H.files world.host) (λ files. IsRecordDamage files file at) × (H.files result.1.host ≡ H.files world.host)) result.0 }
     ensures own { (files : Files) → H.files world.host ≡ Some files → IsOwn (H.images world.host) → IfDamagedExit (λ _ _. ⊥) result.0 }
     ensures disk { IsCauseOf (H.faults world.host) (H.faults result.1.host) (result.0 ≡ Exit.DiskFault) }
     ensures read { IsCauseOf (S.faults world.source) (S.faults result.1.source) (result.0 ≡ Exit.ReadFault) }
@@ -96,8 +99,10 @@ pub fn weed<S: Source, H: Host, C: Clock>(
 
     // The run's first call of the disk turns the host to the directory of the words, and none turns it elsewhere;
     // or the run ends before it reads or sends anything.
-    ensures attached { (dir : List ℕ) → order_of words.now ≡ Ok dir → (H.attachment result.1.host ≡ attached_to dir (H.tick world.host) (H.attachment world.host))
-        ⊎ ((H.attachment result.1.host ≡ H.attachment world.host) × EndsUnread result.0 (H.sent world.host) (H.sent result.1.host) world.source result.1.source) }
+    ensures attached { (dir : List ℕ) → order_of words.now ≡ Ok dir
+        → (H.attachment result.1.host ≡ attached_to dir (H.tick world.host) (H.attachment world.host))
+        ⊎ ((H.attachment result.1.host ≡ H.attachment world.host)
+        × EndsUnread result.0 (H.sent world.host) (H.sent result.1.host) world.source result.1.source) }
 {
     let mut world = world;
     match read_words(words) {
@@ -115,21 +120,25 @@ fn filer_once<S: Source, H: Host, C: Clock>(
     dir: &[u8],
     world: &mut World<S, H, C>,
 ) -> Exit
-    ensures answers { (first : State) → Starts (S.left world.old.source) (bytes_sent (H.sent world.old.host)) (H.files world.old.host) (C.moments world.old.clock) first
-        → (path : List State) × (last : State) × Stands (S.left world.new.source) (bytes_sent (H.sent world.new.host)) (H.files world.new.host) (C.moments world.new.clock) last
+    ensures answers { (first : State)
+        → Starts (S.left world.old.source) (bytes_sent (H.sent world.old.host)) (H.files world.old.host) (C.moments world.old.clock) first
+        → (path : List State) × (last : State)
+        × Stands (S.left world.new.source) (bytes_sent (H.sent world.new.host)) (H.files world.new.host) (C.moments world.new.clock) last
         × EndsRun (Rose (H.send_faults world.old.host) (H.send_faults world.new.host)) (world.new.source ≡ world.old.source) result first path last (λ of_run.
-            IsOwn (H.images world.old.host) → Survives H.tick H.images H.image_since H.sent world.old.host world.new.host result first path last of_run)
+        IsOwn (H.images world.old.host) → Survives H.tick H.images H.image_since H.sent world.old.host world.new.host result first path last of_run)
         × ReadsNoMore S.left S.reads world.old.source world.new.source first path }
     ensures unreadable { (files : Files) → H.files world.old.host ≡ Some files → ((records : List Record) → ¬ IsRecordLog files records)
         → EndsUnread result (H.sent world.old.host) (H.sent world.new.host) world.old.source world.new.source }
     ensures good_words { (place : ℕ) → result ≡ Exit.BadWords place → ⊥ }
-    ensures damaged { IfDamagedExit (λ file at. IfSome (H.files world.old.host) (λ files. IsRecordDamage files file at) × (H.files world.new.host ≡ H.files world.old.host)) result }
+    ensures damaged { IfDamagedExit
+        (λ file at. IfSome (H.files world.old.host) (λ files. IsRecordDamage files file at) × (H.files world.new.host ≡ H.files world.old.host)) result }
     ensures own { (files : Files) → H.files world.old.host ≡ Some files → IsOwn (H.images world.old.host) → IfDamagedExit (λ _ _. ⊥) result }
     ensures disk { IsCauseOf (H.faults world.old.host) (H.faults world.new.host) (result ≡ Exit.DiskFault) }
     ensures read { IsCauseOf (S.faults world.old.source) (S.faults world.new.source) (result ≡ Exit.ReadFault) }
     ensures write { IsCauseBeside (H.send_faults world.old.host) (H.send_faults world.new.host) (result ≡ Exit.WriteFault) (result ≡ Exit.DiskFault) }
     ensures attached { (H.attachment world.new.host ≡ attached_to dir.now (H.tick world.old.host) (H.attachment world.old.host))
-        ⊎ ((H.attachment world.new.host ≡ H.attachment world.old.host) × EndsUnread result (H.sent world.old.host) (H.sent world.new.host) world.old.source world.new.source) }
+        ⊎ ((H.attachment world.new.host ≡ H.attachment world.old.host)
+        × EndsUnread result (H.sent world.old.host) (H.sent world.new.host) world.old.source world.new.source) }
 {
     match begin(alloc, dir, &mut world.host) {
         Ok(mut session) => run(alloc, &mut session, world),
@@ -142,11 +151,13 @@ fn begin<H: Host>(alloc: Global, dir: &[u8], host: &mut H) -> Result<Session, Ex
     ensures began { IfOk result (λ session. Begins (H.files host.old) (H.files host.new) session) }
     ensures held { IfOk result (λ session. (records : List Record) × HoldsFiler (H.files host.new) session.filer records) }
     ensures early { IfErr result IsEarly }
-    ensures damaged { IfErr result (IfDamagedExit (λ file at. IfSome (H.files host.old) (λ files. IsRecordDamage files file at) × (H.files host.new ≡ H.files host.old))) }
+    ensures damaged { IfErr result (IfDamagedExit
+        (λ file at. IfSome (H.files host.old) (λ files. IsRecordDamage files file at) × (H.files host.new ≡ H.files host.old))) }
     ensures kept { (records : List Record) → HoldsRecordLog (H.files host.old) records → HoldsRecordLog (H.files host.new) records }
     ensures others { BothTold (LeavesOthers Log) (H.files host.old) (H.files host.new) }
     ensures atomic { (files : Files) → H.files host.old ≡ Some files → LeavesOnly H.tick H.image_since host.old host.new (HasLogOf (H.images host.old)) }
-    ensures settled { IfOk result (λ _. (files : Files) (records : List Record) → H.files host.old ≡ Some files → IsRecordLog files records → ImagesKeep (H.images host.new) records) }
+    ensures settled { IfOk result (λ _. (files : Files) (records : List Record) → H.files host.old ≡ Some files
+        → IsRecordLog files records → ImagesKeep (H.images host.new) records) }
     ensures own { (files : Files) → H.files host.old ≡ Some files → IsOwn (H.images host.old) → IfErr result (IfDamagedExit (λ _ _. ⊥)) }
     ensures cause { IsCauseOf (H.faults host.old) (H.faults host.new) (IsErrOf result Exit.DiskFault) }
     ensures sent { SendsNothing H.sent H.send_faults host.old host.new }

@@ -68,9 +68,13 @@ pub fn run<S: Source, H: Host, C: Clock>(
     world: &mut World<S, H, C>,
 ) -> Exit
     requires { (records : List Record) × HoldsFiler (H.files world.old.host) session.old.filer records }
-    ensures ends { (first : State) → Tells (S.left world.old.source) (bytes_sent (H.sent world.old.host)) (H.files world.old.host) (C.moments world.old.clock) session.old first
-        → (path : List State) × (last : State) × Stands (S.left world.new.source) (bytes_sent (H.sent world.new.host)) (H.files world.new.host) (C.moments world.new.clock) last × Ends (Rose (H.send_faults world.old.host) (H.send_faults world.new.host)) result first path last
-        × (ImagesKeep (H.images world.old.host) first.log → Withstands H.tick H.images H.image_since H.sent world.old.host world.new.host result first path last)
+    ensures ends { (first : State)
+        → Tells (S.left world.old.source) (bytes_sent (H.sent world.old.host)) (H.files world.old.host) (C.moments world.old.clock) session.old first
+        → (path : List State) × (last : State)
+        × Stands (S.left world.new.source) (bytes_sent (H.sent world.new.host)) (H.files world.new.host) (C.moments world.new.clock) last
+        × Ends (Rose (H.send_faults world.old.host) (H.send_faults world.new.host)) result first path last
+        × (ImagesKeep (H.images world.old.host) first.log
+        → Withstands H.tick H.images H.image_since H.sent world.old.host world.new.host result first path last)
         × ReadsNoMore S.left S.reads world.old.source world.new.source first path }
     ensures disk { IsCauseOf (H.faults world.old.host) (H.faults world.new.host) (result ≡ Exit.DiskFault) }
     ensures read { IsCauseOf (S.faults world.old.source) (S.faults world.new.source) (result ≡ Exit.ReadFault) }
@@ -94,15 +98,19 @@ fn turn<S: Source, H: Host, C: Clock>(
     world: &mut World<S, H, C>,
 ) -> Turned
     requires { (records : List Record) × HoldsFiler (H.files world.old.host) session.old.filer records }
-    ensures leads { (old : State) → Tells (S.left world.old.source) (bytes_sent (H.sent world.old.host)) (H.files world.old.host) (C.moments world.old.clock) session.old old
-        → Leads (Rose (H.send_faults world.old.host) (H.send_faults world.new.host)) old (Settling H.tick H.images H.image_since world.old.host world.new.host old.log) (Tearing H.tick H.images H.image_since world.old.host world.new.host old.log)
+    ensures leads { (old : State)
+        → Tells (S.left world.old.source) (bytes_sent (H.sent world.old.host)) (H.files world.old.host) (C.moments world.old.clock) session.old old
+        → Leads (Rose (H.send_faults world.old.host) (H.send_faults world.new.host)) old
+        (Settling H.tick H.images H.image_since world.old.host world.new.host old.log)
+        (Tearing H.tick H.images H.image_since world.old.host world.new.host old.log)
         (S.left world.new.source) (bytes_sent (H.sent world.new.host)) (H.files world.new.host) (C.moments world.new.clock) session.new result }
     ensures needed { ReadsAsNeeded S.left S.reads (left_of session.old.inbox.pending (S.left world.old.source)) world.old.source world.new.source }
     ensures pieces { SendsAt (H.tick world.new.host) (H.sent world.old.host) (H.sent world.new.host) }
     ensures held { result ≡ Turned.Open → (records : List Record) × HoldsFiler (H.files world.new.host) session.new.filer records }
     ensures disk { IsCauseOf (H.faults world.old.host) (H.faults world.new.host) (result ≡ Turned.Ended Exit.DiskFault) }
     ensures read { IsCauseOf (S.faults world.old.source) (S.faults world.new.source) (result ≡ Turned.Ended Exit.ReadFault) }
-    ensures write { IsCauseBeside (H.send_faults world.old.host) (H.send_faults world.new.host) (result ≡ Turned.Ended Exit.WriteFault) (result ≡ Turned.Ended Exit.DiskFault) }
+    ensures write { IsCauseBeside (H.send_faults world.old.host) (H.send_faults world.new.host)
+        (result ≡ Turned.Ended Exit.WriteFault) (result ≡ Turned.Ended Exit.DiskFault) }
     ensures attachment { H.attachment world.new.host ≡ H.attachment world.old.host }
     ensures calls { H.tick world.new.host ≤ H.tick world.old.host + 4 }
     ensures kind { IsTurnEnd result }
@@ -122,14 +130,18 @@ fn answer_request<S: Source, H: Host, C: Clock>(
     world: &mut World<S, H, C>,
 ) -> Turned
     requires { (records : List Record) × HoldsFiler (H.files world.old.host) session.old.filer records }
-    ensures leads { (old : State) (rest : List ℕ) → Asking old rest (S.left world.old.source) (bytes_sent (H.sent world.old.host)) (H.files world.old.host) (C.moments world.old.clock) session.old
-        → Leads (Rose (H.send_faults world.old.host) (H.send_faults world.new.host)) old (Settling H.tick H.images H.image_since world.old.host world.new.host old.log) (Tearing H.tick H.images H.image_since world.old.host world.new.host old.log)
+    ensures leads { (old : State) (rest : List ℕ)
+        → Asking old rest (S.left world.old.source) (bytes_sent (H.sent world.old.host)) (H.files world.old.host) (C.moments world.old.clock) session.old
+        → Leads (Rose (H.send_faults world.old.host) (H.send_faults world.new.host)) old
+        (Settling H.tick H.images H.image_since world.old.host world.new.host old.log)
+        (Tearing H.tick H.images H.image_since world.old.host world.new.host old.log)
         (S.left world.new.source) (bytes_sent (H.sent world.new.host)) (H.files world.new.host) (C.moments world.new.clock) session.new result }
     ensures pieces { SendsAt (H.tick world.new.host) (H.sent world.old.host) (H.sent world.new.host) }
     ensures held { result ≡ Turned.Open → (records : List Record) × HoldsFiler (H.files world.new.host) session.new.filer records }
     ensures disk { IsCauseOf (H.faults world.old.host) (H.faults world.new.host) (result ≡ Turned.Ended Exit.DiskFault) }
     ensures read { result ≡ Turned.Ended Exit.ReadFault → ⊥ }
-    ensures write { IsCauseBeside (H.send_faults world.old.host) (H.send_faults world.new.host) (result ≡ Turned.Ended Exit.WriteFault) (result ≡ Turned.Ended Exit.DiskFault) }
+    ensures write { IsCauseBeside (H.send_faults world.old.host) (H.send_faults world.new.host)
+        (result ≡ Turned.Ended Exit.WriteFault) (result ≡ Turned.Ended Exit.DiskFault) }
     ensures source { world.new.source ≡ world.old.source }
     ensures attachment { H.attachment world.new.host ≡ H.attachment world.old.host }
     ensures calls { H.tick world.new.host ≤ H.tick world.old.host + 4 }

@@ -16,6 +16,7 @@ pub struct Standing {
     ghost not_yet_is: { not_yet ≡ not_yet_answer },
 }
 
+/// Makes them, before the first request.
 pub fn make_standing(alloc: Global) -> Result<Standing, AllocError> {
     Ok(Standing {
         memory: refused(alloc, Status::ServiceUnavailable, "Memory", false)?,

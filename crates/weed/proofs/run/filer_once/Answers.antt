@@ -55,7 +55,7 @@ returns-in-Err-clause-answers g c first starts =
         c.in-Err.ensures.early,
         refl,
         same_rests first,
-        refl,
+        refl {a = c.args.world.now.source},
         λ own.
             survives_early disk.tick disk.images disk.image_since disk.sent g.met.H.Disk.only_now g.met.H.Disk.counts_now old new own (c.in-Err.ensures.atomic log.0 log.1) c.in-Err.exit first first
             stands.sent_is,
