@@ -1,5 +1,6 @@
 -- The real directory as a disk: what a call of it tells, and what it does to the directory that is attached.
-use Rattle.std.specs.Prelude.{◌≡◌, true, None, Result, IsErr, IsSomeAnd}
+use Rattle.std.specs.Prelude.{◌≡◌, ◌-◌, ◌^◌, true, None, Result, IsErr, IsSomeAnd}
+use Rattle.weed_base.specs.Told.{HasCause}
 use Rattle.weed_base.specs.Files.{BothTold}
 use Rattle.weed_base.specs.Images.{Elapses}
 use Rattle.weed_base.specs.declared.real.folder.Folder.{Folder}
@@ -16,6 +17,14 @@ Ticks old new = Elapses old.counts.made new.counts.made (λ _ _. ⊥) (λ _ _. �
 -- After a sync or an attach that failed a call fails, and so does each later one.
 abbrev pub StaysBroken : {R F T E : Type 0} → DirDisk R F → DirDisk R F → Result T E → Type 0
 StaysBroken old new result = IsBroken old → IsErr result × IsBroken new
+
+-- A call but an attach and a listing was made: it counted its fault, failed at the last number, and turned nowhere.
+pub record IsCalled {R F T E : Type 0} (old new : DirDisk R F) (result : Result T E) : Type 0 where
+  pub time : Ticks old new
+  pub spent : old.counts.made ≡ 2 ^ 64 - 1 → IsErr result
+  pub breaks : StaysBroken old new result
+  pub cause : HasCause old.counts.faults new.counts.faults result
+  pub attachment : new.attachment ≡ old.attachment
 
 -- A directory is attached before and after, and they are so.
 abbrev pub BothAttached : {R F : Type 0} → (Folder R F → Folder R F → Type 0) → DirDisk R F → DirDisk R F → Type 0

@@ -7,7 +7,7 @@ ghost use Rattle.weed_base.specs.Files.{ReadsAt};
 ghost use Rattle.weed_base.specs.System.{Wrote, CutTo, Missed};
 ghost use Rattle.weed_base.specs.Awaiting.{Awaiting};
 ghost use Rattle.weed_base.specs.Folder.{OfFile, OfFileOr, IsListing, IsOpened, IsSameFolder, KeepsAwaiting, HasMade, HasRemoved, HasRenamed, MayHaveChanged, Settles, IsSettledWhole, path_of};
-ghost use Rattle.weed_base.specs.RealForms.{IsBroken, Ticks, StaysBroken, BothAttached, Leaves};
+ghost use Rattle.weed_base.specs.RealForms.{IsBroken, IsCalled, Ticks, StaysBroken, BothAttached, Leaves};
 ghost use Rattle.weed_base.specs.declared.real.kept.Awaits.TheVariants.{Data, Everything};
 
 use crate::attachment::Attachment;
@@ -195,11 +195,7 @@ impl<F: SystemFile + Drop, R: System<File = F> + AllocGlobal + Clone + Drop> Dis
     }
 
     fn size(&mut self, name: &FileName) -> Result<Option<u64>, Failed>
-        ensures time { Ticks self.old self.new }
-        ensures spent { self.old.counts.made ≡ 2 ^ 64 - 1 → IsErr result }
-        ensures breaks { StaysBroken self.old self.new result }
-        ensures cause { HasCause self.old.counts.faults self.new.counts.faults result }
-        ensures attachment { self.new.attachment ≡ self.old.attachment }
+        ensures called { IsCalled self.old self.new result }
         ensures keeps { Leaves (KeepsAwaiting R.answered) self.old self.new }
         ensures size { IfOk result (λ size. IsSomeAnd self.old.folder (λ folder. MatchOption size (R.answered (Missed (path_of folder name.now)) folder.system)
             (λ size. OfFile R.answered (λ file. IfSome (F.bytes file) (λ told. size ≡ length told)) name.now folder))) }
@@ -213,11 +209,7 @@ impl<F: SystemFile + Drop, R: System<File = F> + AllocGlobal + Clone + Drop> Dis
     }
 
     fn read_at(&mut self, name: &FileName, at: u64, room: &mut [u8]) -> Result<usize, Failed>
-        ensures time { Ticks self.old self.new }
-        ensures spent { self.old.counts.made ≡ 2 ^ 64 - 1 → IsErr result }
-        ensures breaks { StaysBroken self.old self.new result }
-        ensures cause { HasCause self.old.counts.faults self.new.counts.faults result }
-        ensures attachment { self.new.attachment ≡ self.old.attachment }
+        ensures called { IsCalled self.old self.new result }
         ensures keeps { Leaves (KeepsAwaiting R.answered) self.old self.new }
         ensures bound { IfOk result (λ count. count ≤ length room.new) }
         ensures read { IfOk result (λ count. IsSomeAnd self.old.folder
@@ -232,11 +224,7 @@ impl<F: SystemFile + Drop, R: System<File = F> + AllocGlobal + Clone + Drop> Dis
     }
 
     fn write_at(&mut self, name: &FileName, at: u64, piece: &[u8]) -> Result<(), Failed>
-        ensures time { Ticks self.old self.new }
-        ensures spent { self.old.counts.made ≡ 2 ^ 64 - 1 → IsErr result }
-        ensures breaks { StaysBroken self.old self.new result }
-        ensures cause { HasCause self.old.counts.faults self.new.counts.faults result }
-        ensures attachment { self.new.attachment ≡ self.old.attachment }
+        ensures called { IsCalled self.old self.new result }
         ensures keeps { Leaves (KeepsAwaiting R.answered) self.old self.new }
         ensures bound { OnOk result (at + length piece.now < 2 ^ 63) }
         ensures written { OnOk result (BothAttached (λ before after. OfFile R.answered (F.answered (Wrote at piece.now)) name.now before
@@ -251,11 +239,7 @@ impl<F: SystemFile + Drop, R: System<File = F> + AllocGlobal + Clone + Drop> Dis
     }
 
     fn cut(&mut self, name: &FileName, to: u64) -> Result<(), Failed>
-        ensures time { Ticks self.old self.new }
-        ensures spent { self.old.counts.made ≡ 2 ^ 64 - 1 → IsErr result }
-        ensures breaks { StaysBroken self.old self.new result }
-        ensures cause { HasCause self.old.counts.faults self.new.counts.faults result }
-        ensures attachment { self.new.attachment ≡ self.old.attachment }
+        ensures called { IsCalled self.old self.new result }
         ensures keeps { Leaves (KeepsAwaiting R.answered) self.old self.new }
         ensures cut { OnOk result (BothAttached (λ before after. OfFile R.answered (F.answered (CutTo to)) name.now before
             × Awaiting name.now Everything after.kept.files.items) self.old self.new) }
@@ -269,11 +253,7 @@ impl<F: SystemFile + Drop, R: System<File = F> + AllocGlobal + Clone + Drop> Dis
     }
 
     fn make(&mut self, name: &FileName) -> Result<(), Failed>
-        ensures time { Ticks self.old self.new }
-        ensures spent { self.old.counts.made ≡ 2 ^ 64 - 1 → IsErr result }
-        ensures breaks { StaysBroken self.old self.new result }
-        ensures cause { HasCause self.old.counts.faults self.new.counts.faults result }
-        ensures attachment { self.new.attachment ≡ self.old.attachment }
+        ensures called { IsCalled self.old self.new result }
         ensures keeps { Leaves (KeepsAwaiting R.answered) self.old self.new }
         ensures made { OnOk result (BothAttached (HasMade R.answered F.answered name.now) self.old self.new) }
     {
@@ -286,11 +266,7 @@ impl<F: SystemFile + Drop, R: System<File = F> + AllocGlobal + Clone + Drop> Dis
     }
 
     fn remove(&mut self, name: &FileName) -> Result<(), Failed>
-        ensures time { Ticks self.old self.new }
-        ensures spent { self.old.counts.made ≡ 2 ^ 64 - 1 → IsErr result }
-        ensures breaks { StaysBroken self.old self.new result }
-        ensures cause { HasCause self.old.counts.faults self.new.counts.faults result }
-        ensures attachment { self.new.attachment ≡ self.old.attachment }
+        ensures called { IsCalled self.old self.new result }
         ensures keeps { Leaves IsSameFolder self.old self.new }
         ensures removed { OnOk result (BothAttached (HasRemoved R.answered name.now) self.old self.new) }
         ensures failed { OnErr result ((self.new.folder ≡ self.old.folder) ⊎ BothAttached MayHaveChanged self.old self.new) }
@@ -304,11 +280,7 @@ impl<F: SystemFile + Drop, R: System<File = F> + AllocGlobal + Clone + Drop> Dis
     }
 
     fn rename(&mut self, from: &FileName, to: &FileName) -> Result<(), Failed>
-        ensures time { Ticks self.old self.new }
-        ensures spent { self.old.counts.made ≡ 2 ^ 64 - 1 → IsErr result }
-        ensures breaks { StaysBroken self.old self.new result }
-        ensures cause { HasCause self.old.counts.faults self.new.counts.faults result }
-        ensures attachment { self.new.attachment ≡ self.old.attachment }
+        ensures called { IsCalled self.old self.new result }
         ensures keeps { Leaves IsSameFolder self.old self.new }
         ensures renamed { OnOk result (BothAttached (HasRenamed R.answered from.now to.now) self.old self.new) }
         ensures failed { OnErr result ((self.new.folder ≡ self.old.folder) ⊎ BothAttached MayHaveChanged self.old self.new) }
@@ -322,11 +294,7 @@ impl<F: SystemFile + Drop, R: System<File = F> + AllocGlobal + Clone + Drop> Dis
     }
 
     fn sync(&mut self) -> Result<(), Failed>
-        ensures time { Ticks self.old self.new }
-        ensures spent { self.old.counts.made ≡ 2 ^ 64 - 1 → IsErr result }
-        ensures breaks { StaysBroken self.old self.new result }
-        ensures cause { HasCause self.old.counts.faults self.new.counts.faults result }
-        ensures attachment { self.new.attachment ≡ self.old.attachment }
+        ensures called { IsCalled self.old self.new result }
         ensures settled { OnOk result (BothAttached (λ before after. IsSameFolder before after × Settles F.answered before after × IsSettledWhole after) self.old self.new) }
         ensures broken { OnErr result ((self.old.counts.made ≡ 2 ^ 64 - 1) ⊎ IsBroken self.new) }
     {
