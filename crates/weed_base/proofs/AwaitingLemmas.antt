@@ -6,10 +6,10 @@ use Rattle.std.proofs.lemmas.List.{get_or-set_other, length-set}
 use Rattle.std.proofs.lemmas.List.Elements.{at_read}
 use Rattle.std.proofs.lemmas.List.Quantifiers.{any-set, position-Some}
 use Rattle.std.proofs.lemmas.Slice.Eq.{bytes_eq-Decides}
-use Rattle.std.specs.List.{Any, filter, position}
+use Rattle.std.specs.List.{Any, AllZip, filter, position}
 use Rattle.std.specs.Str.{bytes_eq}
 use Rattle.weed_base.specs.System.{FileCall}
-use Rattle.weed_base.specs.Awaiting.{Covers, StillAwaits, IsNamedAt, FallsByAnswer, EachPair, AwaitsNothing}
+use Rattle.weed_base.specs.Awaiting.{Covers, StillAwaits, IsNamedAt, FallsByAnswer, AwaitsNothing}
 use Rattle.weed_base.specs.declared.real.kept.Awaits.{Awaits}
 use Rattle.weed_base.specs.declared.real.kept.Awaits.TheVariants.{Nothing, Data, Everything}
 use Rattle.weed_base.specs.declared.real.kept.KeptFile.{KeptFile}
@@ -109,6 +109,17 @@ named_at {F} files some name place is =
 pub named_at_position : {F : Type 0} (files : List (KeptFile F)) (name : List ℕ) (place : ℕ) → position (λ kept. bytes_eq kept.name name) files ≡ Some place → IsNamedAt name place files
 named_at_position [] name place is = absurd (cc is)
 named_at_position (some ∷ files) name place is = named_at (some ∷ files) some name place is
+
+-- the relation holds of each two in the same place of two lists of one length
+abbrev pub EachPair : {X : Type 0} → (X → X → Type 0) → List X → List X → Type 0
+EachPair {X} R old new = (length new ≡ length old) × ((k : ℕ) (d : X) → k < length old → R (get_or old k d) (get_or new k d))
+
+pub zip_of_places : {X : Type 0} (R : X → X → Type 0) (old new : List X) → EachPair R old new → AllZip R old new
+zip_of_places R [] [] pairs = tt
+zip_of_places R [] (y ∷ ys) pairs = absurd (omega (arith, pairs.0))
+zip_of_places R (x ∷ xs) [] pairs = absurd (omega (arith, pairs.0))
+zip_of_places R (x ∷ xs) (y ∷ ys) pairs =
+    (pairs.1 0 x (omega arith), zip_of_places R xs ys (omega (arith, pairs.0), λ k d below. pairs.1 (suc k) d (omega (arith, below))))
 
 -- a file that was not looked at
 pub falls_same : {F : Type 0} (answered : FileCall → F → Type 0) (kept : KeptFile F) → FallsByAnswer answered kept kept

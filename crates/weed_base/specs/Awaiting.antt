@@ -1,5 +1,5 @@
 -- The open files of a directory, and what they await of the next sync.
-use Rattle.std.specs.Prelude.{◌≡◌, ◌≢◌, ◌⊎◌, ◌<◌, ℕ, cond, not, List, length, filter, slice_index_or, ⊤}
+use Rattle.std.specs.Prelude.{◌≡◌, ◌≢◌, ◌⊎◌, ◌<◌, ℕ, cond, not, List, length, filter, map, slice_index_or, ⊤}
 use Rattle.std.specs.Str.{bytes_eq}
 use Rattle.std.specs.List.{Any}
 use Rattle.weed_base.specs.System.{FileCall, SettledData, SettledAll}
@@ -53,10 +53,6 @@ pub record FallsByAnswer {F : Type 0} (answered : FileCall → F → Type 0) (be
   pub file : after.file ≡ before.file
   pub mark : (after.awaits ≡ before.awaits) ⊎ ((after.awaits ≡ Nothing) × IsSettledBy answered before.awaits before.file)
 
--- The relation holds of each two in the same place of two lists of one length.
-abbrev pub EachPair : {X : Type 0} → (X → X → Type 0) → List X → List X → Type 0
-EachPair {X} R old new = (length new ≡ length old) × ((k : ℕ) (d : X) → k < length old → R (slice_index_or old k d) (slice_index_or new k d))
-
 -- The file awaits nothing.
 abbrev pub AwaitsNothing : {F : Type 0} → KeptFile F → Type 0
 AwaitsNothing kept = kept.awaits ≡ Nothing
@@ -71,4 +67,4 @@ renamed_file from to kept = cond (bytes_eq kept.name from) (record kept { name =
 
 -- What had the first name has the second, what had the second is gone, and the other files stay.
 abbrev pub AreRenamed : {F : Type 0} → List ℕ → List ℕ → List (KeptFile F) → List (KeptFile F) → Type 0
-AreRenamed from to old new = EachPair (λ before after. after ≡ renamed_file from to before) (without to old) new
+AreRenamed from to old new = new ≡ map (renamed_file from to) (without to old)

@@ -2,10 +2,10 @@
 use Rattle.std.specs.Prelude.{◌≡◌, ◌≢◌, ◌⊎◌, ℕ, true, false, List, string_bytes}
 use Rattle.std.specs.Cmp.Lexicographic.{slice_cmp}
 use Rattle.std.specs.Ordering.{nat_cmp}
-use Rattle.std.specs.List.{All}
+use Rattle.std.specs.List.{All, AllZip}
 use Rattle.std.specs.List.Sorted.{IsSorted, IsPermutation}
 use Rattle.weed_base.specs.System.{FileCall, CutTo, SettledAll, PathCall, MadeDirectory, Opened, Missed, Made, Removed, Renamed, Listed, path_in, directory_above}
-use Rattle.weed_base.specs.Awaiting.{Awaiting, IsOpenAs, IsFileAt, StillAwaits, AwaitsNothing, EachPair, FallsByAnswer, without, AreRenamed}
+use Rattle.weed_base.specs.Awaiting.{Awaiting, IsOpenAs, IsFileAt, StillAwaits, AwaitsNothing, FallsByAnswer, without, AreRenamed}
 use Rattle.weed_base.specs.declared.real.kept.Awaits.TheVariants.{Everything}
 use Rattle.weed_base.specs.declared.real.kept.KeptFile.{KeptFile}
 use Rattle.weed_base.specs.declared.real.folder.Folder.{Folder}
@@ -99,5 +99,5 @@ pub record MayHaveChanged {R F : Type 0} (before after : Folder R F) : Type 0 wh
 
 -- What awaited a sync fell by an answer of one alone.
 pub record Settles {R F : Type 0} (answered : FileCall → F → Type 0) (before after : Folder R F) : Type 0 where
-  pub files : EachPair (FallsByAnswer answered) before.kept.files.items after.kept.files.items
+  pub files : AllZip (FallsByAnswer answered) before.kept.files.items after.kept.files.items
   pub names : (after.kept.names_await ≡ before.kept.names_await) ⊎ ((after.kept.names_await ≡ false) × answered SettledAll before.kept.directory)

@@ -1,9 +1,9 @@
 //! The open files of a directory, and what they await of the next sync.
 ghost use Rattle.std.specs.Prelude.{◌≡◌, ◌≢◌, ◌≤◌, ◌<◌, ◌+◌, ◌^◌, ◌⊎◌, ℕ, List, [], length, slice_index_or, true, false, IfOk, OnOk};
-ghost use Rattle.std.specs.List.{All, position};
+ghost use Rattle.std.specs.List.{All, AllZip, position};
 ghost use Rattle.std.specs.Str.{bytes_eq};
 ghost use Rattle.weed_base.specs.System.{Wrote, CutTo, SettledAll};
-ghost use Rattle.weed_base.specs.Awaiting.{Covers, Awaiting, StillAwaits, IsNamedAt, IsFileAt, IsOpenAs, OpensNone, FallsByAnswer, EachPair, AwaitsNothing, without, AreRenamed};
+ghost use Rattle.weed_base.specs.Awaiting.{Covers, Awaiting, StillAwaits, IsNamedAt, IsFileAt, IsOpenAs, OpensNone, FallsByAnswer, AwaitsNothing, without, AreRenamed};
 ghost use Rattle.weed_base.specs.declared.real.kept.Awaits.{Awaits};
 ghost use Rattle.weed_base.specs.declared.real.kept.Awaits.TheVariants.{Nothing, Data, Everything};
 
@@ -87,7 +87,7 @@ impl<F: SystemFile + Drop> KeptFile<F> {
 }
 
 fn sync_each<F: SystemFile + Drop>(files: &mut [KeptFile<F>]) -> io::Result<()>
-    ensures marks { EachPair (FallsByAnswer F.answered) files.old files.new }
+    ensures marks { AllZip (FallsByAnswer F.answered) files.old files.new }
     ensures settled { OnOk result (All AwaitsNothing files.new) }
 {
     for kept in files.iter_mut() {
@@ -222,7 +222,7 @@ impl<F: SystemFile + Drop> KeptFiles<F> {
 
     /// Settles each file that was made, written or cut since the last sync, and the names.
     pub(super) fn sync(&mut self) -> io::Result<()>
-        ensures marks { EachPair (FallsByAnswer F.answered) self.old.files.items self.new.files.items }
+        ensures marks { AllZip (FallsByAnswer F.answered) self.old.files.items self.new.files.items }
         ensures names { (self.new.names_await ≡ self.old.names_await) ⊎ ((self.new.names_await ≡ false) × F.answered SettledAll self.old.directory) }
         ensures settled { OnOk result (All AwaitsNothing self.new.files.items × (self.new.names_await ≡ false)) }
         ensures directory { self.new.directory ≡ self.old.directory }

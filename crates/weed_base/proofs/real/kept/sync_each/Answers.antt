@@ -1,12 +1,17 @@
 use Rattle.std.proofs.Common.{get_or, ap, arith}
 use Rattle.std.proofs.lemmas.Grind.{common_steps}
-use Rattle.weed_base.proofs.AwaitingLemmas.{falls_set, nothing_set}
+use Rattle.weed_base.specs.Awaiting.{FallsByAnswer}
+use Rattle.weed_base.proofs.AwaitingLemmas.{falls_set, nothing_set, zip_of_places}
 use Rattle.weed_base.proofs.real.kept.sync_each.Goals as goal
 
 pub returns-in_err-sync-clause-marks : goal.returns-in_err-sync-clause-marks
 returns-in_err-sync-clause-marks g c =
-    falls_set g.F.SystemFile.answered _ c.loop-kept.files c.loop-kept.kept-index _ c.sync.new.self c.loop-kept.invariant.0 c.loop-kept.invariant.2 (omega arith)
-    (ap (λ item. get_or c.loop-kept.files c.loop-kept.kept-index item) c.kept-item.is) c.sync.ensures.mark
+    zip_of_places (FallsByAnswer g.F.SystemFile.answered) _ _
+    (falls_set g.F.SystemFile.answered _ c.loop-kept.files c.loop-kept.kept-index _ c.sync.new.self c.loop-kept.invariant.0 c.loop-kept.invariant.2 (omega arith)
+    (ap (λ item. get_or c.loop-kept.files c.loop-kept.kept-index item) c.kept-item.is) c.sync.ensures.mark)
+
+pub returns-clause-marks : goal.returns-clause-marks
+returns-clause-marks g c = zip_of_places (FallsByAnswer g.F.SystemFile.answered) _ _ c.loop-kept.invariant.0
 
 pub loop-kept-preserved : goal.loop-kept-preserved
 loop-kept-preserved g c = (
