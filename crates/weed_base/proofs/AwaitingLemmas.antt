@@ -51,15 +51,18 @@ pub below_other : (k i : ℕ) → k < i + 1 → k ≢ i → k < i
 below_other k i below other = elim (cases_lt k i) [ inl less ↦ less | inr more ↦ absurd (other (omega (arith, below, more))) ]
 
 -- the file at a place is marked for more
-pub still_set : {F : Type 0} (files : List (KeptFile F)) (place : ℕ) (before kept : KeptFile F) → place < length files → before ≡ get_or files place before → kept.name ≡ before.name → Covers kept.awaits before.awaits → StillAwaits files (set files place kept)
-still_set {F} files place before kept within was same more name mark something (k, x, below, is, holds) =
+pub still_set : {F : Type 0} (files : List (KeptFile F)) (place : ℕ) (before kept : KeptFile F) → place < length files → before ≡ get_or files place before → kept.name ≡ before.name → kept.file ≡ before.file → Covers kept.awaits before.awaits → StillAwaits files (set files place kept)
+still_set {F} files place before kept within was same file more name held mark something (k, x, below, is, holds) =
     elim (same_or_other k place) [
       | inl here ↦
           let stood : get_or files place x ≡ before = at_read files (λ y. y ≡ before) place before within was refl x in
           let both : x ≡ before = sym is ∙ ap (λ i. get_or files i x) here ∙ stood in
-          any-set (λ y. (y.name ≡ name) × Covers y.awaits mark) files place kept within (
+          any-set (λ y. (y.name ≡ name) × ((y.file ≡ held) × Covers y.awaits mark)) files place kept within (
             same ∙ ap (λ y. y.name) (sym both) ∙ holds.0,
-            covers_along kept.awaits before.awaits mark more (subst (λ (y : KeptFile F). Covers y.awaits mark) both holds.1),
+            (
+              file ∙ ap (λ y. y.file) (sym both) ∙ holds.1.0,
+              covers_along kept.awaits before.awaits mark more (subst (λ (y : KeptFile F). Covers y.awaits mark) both holds.1.1),
+            ),
           )
       | inr other ↦ (k, x, grind (arith, common_steps), get_or-set_other files place k kept x other ∙ is, holds)
     ]
@@ -71,7 +74,7 @@ named_set P files place before kept name named was same holds =
 
 -- one more file
 pub still_push : {F : Type 0} (files : List (KeptFile F)) (kept : KeptFile F) → StillAwaits files (files ++ kept ∷ [])
-still_push files kept name mark something (k, x, below, is, holds) = (k, x, grind (arith, common_steps), grind (arith, common_steps), holds)
+still_push files kept name file mark something (k, x, below, is, holds) = (k, x, grind (arith, common_steps), grind (arith, common_steps), holds)
 
 -- what a filter by a test that it passes keeps
 any_filter : {X : Type 0} (P : X → Type 0) (test : X → Bool) (passes : (x : X) → P x → test x ≡ true) (xs : List X) → Any P xs → Any P (filter test xs)
@@ -94,9 +97,9 @@ covers_nothing Everything something covers = covers
 
 -- only files that await nothing go
 pub still_filter : {F : Type 0} (test : KeptFile F → Bool) (passes : (kept : KeptFile F) → kept.awaits ≢ Nothing → test kept ≡ true) (files : List (KeptFile F)) → StillAwaits files (filter test files)
-still_filter {F} test passes files name mark something found =
-    any_filter (λ kept. (kept.name ≡ name) × Covers kept.awaits mark) test
-    (λ kept holds. passes kept (λ none. covers_nothing mark something (subst (λ a. Covers a mark) none holds.1))) files found
+still_filter {F} test passes files name file mark something found =
+    any_filter (λ kept. (kept.name ≡ name) × ((kept.file ≡ file) × Covers kept.awaits mark)) test
+    (λ kept holds. passes kept (λ none. covers_nothing mark something (subst (λ a. Covers a mark) none holds.1.1))) files found
 
 -- the first file of a name
 named_at : {F : Type 0} (files : List (KeptFile F)) (some : KeptFile F) (name : List ℕ) (place : ℕ) → position (λ kept. bytes_eq kept.name name) files ≡ Some place → IsNamedAt name place files
@@ -121,14 +124,15 @@ zip_of_places R (x ∷ xs) [] pairs = absurd (omega (arith, pairs.0))
 zip_of_places R (x ∷ xs) (y ∷ ys) pairs =
     (pairs.1 0 x (omega arith), zip_of_places R xs ys (omega (arith, pairs.0), λ k d below. pairs.1 (suc k) d (omega (arith, below))))
 
--- a file that was not looked at
-pub falls_same : {F : Type 0} (answered : FileCall → F → Type 0) (kept : KeptFile F) → FallsByAnswer answered kept kept
-falls_same answered kept = record { name = refl; file = refl; mark = inl refl }
-
 -- what follows where a call answered Ok
 pub on_ok : {T E : Type 0} {P Q : Type 0} (answer : Result T E) → (P → Q) → OnOk answer P → OnOk answer Q
 on_ok (Ok value) then holds = then holds
 on_ok (Err error) then holds = tt
+
+-- the same with what follows where it fits
+pub both_ok : {T E : Type 0} (Fits P Q : Type 0) (answer : Result T E) → OnOk answer Fits → OnOk answer P → (Fits → Q) → OnOk answer (P × Q)
+both_ok Fits P Q (Ok value) fits holds then = (holds, then fits)
+both_ok Fits P Q (Err error) fits holds then = tt
 
 -- the first places were settled in turn, and one more
 pub falls_set : {F : Type 0} (answered : FileCall → F → Type 0) (before now : List (KeptFile F)) (i : ℕ) (old new : KeptFile F) → EachPair (FallsByAnswer answered) before now → ((k : ℕ) (d : KeptFile F) → i ≤ k → get_or now k d ≡ get_or before k d) → i < length now → old ≡ get_or now i old → FallsByAnswer answered old new → EachPair (FallsByAnswer answered) before (set now i new)

@@ -1,10 +1,11 @@
 -- What an attached directory keeps along its calls, and which file they are of.
-use Rattle.std.proofs.Common.{◌≡◌, ◌⊎◌, ℕ, zero, suc, ◌<◌, List, [], ◌∷◌, length, get_or, string_bytes, Option, Some, Result, Ok, Err, OnOk, IfOk, MatchOption, true, sym, ap, ◌∙◌, inl, inr, subst, refl, arith}
+use Rattle.std.proofs.Common.{◌≡◌, ◌⊎◌, ℕ, zero, suc, ◌<◌, List, [], ◌∷◌, length, get_or, string_bytes, Option, Some, None, IfSome, Result, Ok, Err, OnOk, IfOk, MatchOption, true, sym, ap, ◌∙◌, inl, inr, subst, refl, arith}
 use Rattle.std.specs.List.{position}
 use Rattle.std.specs.Str.{bytes_eq}
+use Rattle.weed_base.specs.Files.{BothTold}
 use Rattle.weed_base.specs.System.{PathCall, Opened, Made, path_in}
 use Rattle.weed_base.specs.Awaiting.{IsNamedAt, IsFileAt, IsOpenAs, OpensNone, StillAwaits}
-use Rattle.weed_base.specs.Folder.{IsOpenFile, IsOpenAt, IsSameFolder, OpensByName, KeepsAwaiting, path_of}
+use Rattle.weed_base.specs.Folder.{IsOpenFile, IsOpenAt, IsSameFolder, OpensByName, KeepsFolder, path_of}
 use Rattle.weed_base.specs.declared.real.kept.KeptFile.{KeptFile}
 use Rattle.weed_base.specs.declared.real.kept.KeptFiles.{KeptFiles}
 use Rattle.weed_base.specs.declared.real.folder.Folder.{Folder}
@@ -22,16 +23,16 @@ opens_along answered first middle last same one two name file found =
       | inr made ↦ inr (subst (λ system. answered (Made (path_of first name) file) system) same.system (subst (λ path. answered (Made path file) middle.system) (path_same same name) made))
     ]
 
-pub keeps_along : {R F : Type 0} (answered : PathCall F → R → Type 0) {first middle last : Folder R F} → KeepsAwaiting answered first middle → KeepsAwaiting answered middle last → KeepsAwaiting answered first last
+pub keeps_along : {R F : Type 0} (answered : PathCall F → R → Type 0) {first middle last : Folder R F} → KeepsFolder answered first middle → KeepsFolder answered middle last → KeepsFolder answered first last
 keeps_along answered {first} {middle} {last} one two = record {
   same = record { system = two.same.system ∙ one.same.system; path = two.same.path ∙ one.same.path; directory = two.same.directory ∙ one.same.directory };
   opens = opens_along answered first middle last one.same one.opens two.opens;
-  files = λ name mark something found. two.files name mark something (one.files name mark something found);
+  files = λ name file mark something found. two.files name file mark something (one.files name file mark something found);
   names = λ was. two.names (one.names was);
 }
 
 -- a change of the open files alone
-pub keeps_by : {R F : Type 0} (answered : PathCall F → R → Type 0) (folder : Folder R F) (kept : KeptFiles F) → OpensByName answered folder (record folder { kept = kept }) → StillAwaits folder.kept.files.items kept.files.items → (folder.kept.names_await ≡ true → kept.names_await ≡ true) → kept.directory ≡ folder.kept.directory → KeepsAwaiting answered folder (record folder { kept = kept })
+pub keeps_by : {R F : Type 0} (answered : PathCall F → R → Type 0) (folder : Folder R F) (kept : KeptFiles F) → OpensByName answered folder (record folder { kept = kept }) → StillAwaits folder.kept.files.items kept.files.items → (folder.kept.names_await ≡ true → kept.names_await ≡ true) → kept.directory ≡ folder.kept.directory → KeepsFolder answered folder (record folder { kept = kept })
 keeps_by answered folder kept opens files names directory = record { same = record { system = refl; path = refl; directory = directory }; opens = opens; files = files; names = names }
 
 -- a call that opens none
@@ -91,3 +92,10 @@ opens_one {F = F} answered folder kept new came only name file found =
             | inr made ↦ inr (subst (λ (it : F). answered (Made (path_of folder name) it) folder.system) is.1 (subst (λ it. answered (Made (path_of folder it) new.file) folder.system) is.0 made))
           ]
     ]
+
+-- the directory before and the one after, where one was attached
+pub both_some : {X : Type 0} (R : X → X → Type 0) (before after : Option X) → BothTold R before after → IfSome before (λ old. (new : X) × R old new)
+both_some R None None told = tt
+both_some R None (Some new) told = absurd told
+both_some R (Some old) None told = absurd told
+both_some R (Some old) (Some new) told = (new, told)

@@ -1,7 +1,7 @@
 -- How a run goes on from what its calls leave.
-use Rattle.std.proofs.Common.{◌≡◌, ℕ, ◌≤◌, ◌⊎◌, inl, inr, sym, subst, refl, arith}
+use Rattle.std.proofs.Common.{ℕ, ◌≤◌, ◌⊎◌, inl, inr, arith}
 use Rattle.weed_base.specs.Files.{Files}
-use Rattle.weed_base.specs.Images.{NoMore, Follows, Takes, Elapses, StandsStill, LeavesOnly, OnlyReads}
+use Rattle.weed_base.specs.Images.{NoMore, Elapses, StandsStill, LeavesOnly, OnlyReads}
 
 -- two runs, one behind the other
 pub leaves_both : {D : Type 0} (tick : D → ℕ) (since : D → ℕ → Files → Type 0) (old middle new : D) (P : Files → Type 0)
@@ -51,20 +51,6 @@ leaves_still tick since images old new P still = record {
   later = omega (arith, still.tick);
   each = λ moment image early left. inl (still.nothing_else moment image left);
 }
-
--- each image since a moment has P, and goes on to have it
-pub leaves_since : {D : Type 0} (tick : D → ℕ) (since : D → ℕ → Files → Type 0) (old new : D) (moment : ℕ) (P Q : Files → Type 0)
-    → moment ≤ tick old → ((image : Files) → since old moment image → P image) → ((image : Files) → Q image → P image) → LeavesOnly tick since old new Q
-    → (image : Files) → since new moment image → P image
-leaves_since tick since old new moment P Q early before implied leaves image left =
-    elim (leaves.each moment image early left) as (λ _. P image) [
-      | inl earlier ↦ before image earlier
-      | inr now ↦ implied image now
-    ]
-
--- a change that is done at once stands as before or as after
-pub at_once : (change : Files → Files) (old new : Files) → (new ≡ old) ⊎ (new ≡ change old) → Follows (Takes change) (λ image. image ≡ old) (λ image. image ≡ new)
-at_once change old new done image is = (old, refl, subst (λ left. Takes change old left) (sym is) done)
 
 -- two runs of calls that only read, one behind the other
 pub reads_both : {D : Type 0} (tick : D → ℕ) (images : D → Files → Type 0) (since : D → ℕ → Files → Type 0) (old middle new : D)

@@ -65,9 +65,6 @@ parts_of_at_slash text at within slash =
 pub pieces_plain : (text : List ℕ) → All (λ b. b ≢ 47) text → pieces text ≡ text ∷ []
 pieces_plain text plain = slice_split_none (λ b. eqb b 47) text (λ k d within. grind (arith, nat_tests, plain k d within))
 
-pub parts_of_plain : (text : List ℕ) → All (λ b. b ≢ 47) text → parts_of text ≡ []
-parts_of_plain text plain = ap (drop 1) (pieces_plain text plain)
-
 -- the last slash stands before the last part
 pub parts_of_at_last : (text : List ℕ) (at : ℕ) → at < length text → get_or text at 0 ≡ 47 → All (λ b. b ≢ 47) (drop (at + 1) text) → parts_of text ≡ parts_of (take at text) ++ drop (at + 1) text ∷ []
 parts_of_at_last text at within slash plain =

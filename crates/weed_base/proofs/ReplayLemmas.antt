@@ -1,10 +1,9 @@
 -- Calls made once more, the oldest first.
-use Rattle.std.proofs.Common.{◌≡◌, ℕ, suc, ◌+◌, ◌<◌, ◌≤◌, List, [], ◌∷◌, ◌++◌, length, take, drop, reverse, get_or, true, false, sym, ap, ◌∙◌, subst, refl, arith, add-one, append_assoc, append-nil}
-use Rattle.std.proofs.lemmas.Grind.{common_steps}
+use Rattle.std.proofs.Common.{◌≡◌, ℕ, ◌+◌, ◌<◌, List, [], ◌∷◌, ◌++◌, length, take, drop, reverse, get_or, true, false, sym, ap, ◌∙◌, refl, add-one, append_assoc, append-nil}
 use Rattle.std.proofs.lemmas.List.{reverse-append, take-append-drop}
-use Rattle.std.proofs.Math.Seq.{take-suc, drop-cons}
+use Rattle.std.proofs.Math.Seq.{take-suc}
 use Rattle.weed_base.specs.Files.{Files}
-use Rattle.weed_base.specs.History.{is_sync, changed, reads, earlier, settled_as, picked_after, picked, replayed, AreOpen, IsSettled}
+use Rattle.weed_base.specs.History.{is_sync, changed, reads, settled_as, picked_after, picked, replayed, AreOpen, IsSettled}
 use Rattle.weed_base.specs.declared.mem.change.Call.{Call}
 use Rattle.weed_base.specs.declared.mem.change.Change.{Change}
 use Rattle.weed_base.specs.declared.mem.change.Change.TheVariants.{Written, Torn, Cut, Made, Removed, Renamed, Synced}
@@ -18,32 +17,6 @@ newest-of calls count rest call one within is =
     ∙ ap reverse (take-suc calls rest call within)
     ∙ reverse-append (take rest calls) (get_or calls rest call ∷ [])
     ∙ ap (λ newest. newest ∷ reverse (take rest calls)) (sym is)
-
--- a call that is no earlier than the tick is passed over
-pub earlier-over : (tick : ℕ) (calls : List Call) (count rest : ℕ) (call : Call) → count ≡ rest + 1 → rest < length calls → call ≡ get_or calls rest call → tick ≤ call.tick
-    → earlier tick (reverse (take rest calls)) ≡ earlier tick (reverse (take count calls))
-earlier-over tick calls count rest call one within is late =
-    let passed : earlier tick (call ∷ reverse (take rest calls)) ≡ earlier tick (reverse (take rest calls)) = grind (arith, common_steps) in
-    sym (ap (earlier tick) (newest-of calls count rest call one within is) ∙ passed)
-
--- at a call that is earlier the rest is earlier
-pub earlier-at : (tick : ℕ) (calls : List Call) (count rest : ℕ) (call : Call) → count ≡ rest + 1 → rest < length calls → call ≡ get_or calls rest call → call.tick < tick
-    → earlier tick (reverse (take count calls)) ≡ reverse (take count calls)
-earlier-at tick calls count rest call one within is early =
-    let newest = newest-of calls count rest call one within is in
-    let all : earlier tick (call ∷ reverse (take rest calls)) ≡ call ∷ reverse (take rest calls) = grind (arith, common_steps) in
-    ap (earlier tick) newest ∙ all ∙ sym newest
-
--- one open call more
-pub open-more : (calls : List Call) (count rest : ℕ) (call : Call) → count ≡ rest + 1 → rest < length calls → call ≡ get_or calls rest call → is_sync call.change ≡ false
-    → AreOpen (drop count calls) → AreOpen (drop rest calls)
-open-more calls count rest call one within is unsynced open_left =
-    let more : drop rest calls ≡ call ∷ drop count calls = drop-cons calls rest call within ∙ ap (λ first. first ∷ drop (suc rest) calls) (sym is) ∙ ap (λ n. call ∷ drop n calls) (sym (one ∙ add-one rest)) in
-    subst AreOpen (sym more) (unsynced, open_left)
-
--- a sync settles the calls up to it
-pub settled-at : (calls : List Call) (count rest : ℕ) (call : Call) → count ≡ rest + 1 → rest < length calls → call ≡ get_or calls rest call → is_sync call.change ≡ true → IsSettled (reverse (take count calls))
-settled-at calls count rest call one within is synced = subst IsSettled (sym (newest-of calls count rest call one within is)) synced
 
 reversed-more : (call : Call) (calls past : List Call) → reverse calls ++ (call ∷ past) ≡ reverse (call ∷ calls) ++ past
 reversed-more call calls past = sym (ap (λ turned. turned ++ past) (reverse-append (call ∷ []) calls) ∙ append_assoc (reverse calls) (call ∷ []) past)

@@ -17,13 +17,13 @@ Covers Nothing Everything = ⊥
 Covers Data Everything = ⊥
 Covers Everything Everything = ⊤
 
--- An open file of that name awaits at least that.
-abbrev pub Awaiting : {F : Type 0} → List ℕ → Awaits → List (KeptFile F) → Type 0
-Awaiting name mark files = Any (λ kept. (kept.name ≡ name) × Covers kept.awaits mark) files
+-- That file is open under that name, and awaits at least that.
+abbrev pub Awaiting : {F : Type 0} → List ℕ → F → Awaits → List (KeptFile F) → Type 0
+Awaiting name file mark files = Any (λ kept. (kept.name ≡ name) × ((kept.file ≡ file) × Covers kept.awaits mark)) files
 
 -- Each file that awaited something is still open, and awaits at least as much.
 abbrev pub StillAwaits : {F : Type 0} → List (KeptFile F) → List (KeptFile F) → Type 0
-StillAwaits old new = (name : List ℕ) (mark : Awaits) → mark ≢ Nothing → Awaiting name mark old → Awaiting name mark new
+StillAwaits {F} old new = (name : List ℕ) (file : F) (mark : Awaits) → mark ≢ Nothing → Awaiting name file mark old → Awaiting name file mark new
 
 -- The file at that place has that name.
 abbrev pub IsNamedAt : {F : Type 0} → List ℕ → ℕ → List (KeptFile F) → Type 0
@@ -41,7 +41,7 @@ IsOpenAs name file files = Any (λ kept. (kept.name ≡ name) × (kept.file ≡ 
 abbrev pub OpensNone : {F : Type 0} → List (KeptFile F) → List (KeptFile F) → Type 0
 OpensNone {F} old new = (name : List ℕ) (file : F) → IsOpenAs name file new → IsOpenAs name file old
 
--- What a file awaited was asked of a sync of that kind, which answered Ok.
+-- What a file awaited was settled by a sync of its kind, which answered Ok.
 abbrev pub IsSettledBy : {F : Type 0} → (FileCall → F → Type 0) → Awaits → F → Type 0
 IsSettledBy answered Nothing file = ⊤
 IsSettledBy answered Data file = answered SettledData file

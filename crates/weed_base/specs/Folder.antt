@@ -4,13 +4,13 @@ use Rattle.std.specs.Cmp.Lexicographic.{slice_cmp}
 use Rattle.std.specs.Ordering.{nat_cmp}
 use Rattle.std.specs.List.{All, AllZip}
 use Rattle.std.specs.List.Sorted.{IsSorted, IsPermutation}
-use Rattle.weed_base.specs.System.{FileCall, CutTo, SettledAll, PathCall, MadeDirectory, Opened, Missed, Made, Removed, Renamed, Listed, path_in, directory_above}
+use Rattle.weed_base.specs.System.{FileCall, CutTo, SettledAll, PathCall, MadeDirectory, OpenedToSettle, Opened, Missed, Made, Removed, Renamed, Listed, path_in, directory_above}
 use Rattle.weed_base.specs.Awaiting.{Awaiting, IsOpenAs, IsFileAt, StillAwaits, AwaitsNothing, FallsByAnswer, without, AreRenamed}
 use Rattle.weed_base.specs.declared.real.kept.Awaits.TheVariants.{Everything}
 use Rattle.weed_base.specs.declared.real.kept.KeptFile.{KeptFile}
 use Rattle.weed_base.specs.declared.real.folder.Folder.{Folder}
 
--- The file stood open under that name, or it was opened now, at that path.
+-- The file stood open under that name, or it was opened at that path.
 abbrev pub IsOpenFile : {F : Type 0} → (PathCall F → Type 0) → List ℕ → List ℕ → List (KeptFile F) → F → Type 0
 IsOpenFile answered path name files file = IsOpenAs name file files ⊎ answered (Opened path file)
 
@@ -18,7 +18,7 @@ IsOpenFile answered path name files file = IsOpenAs name file files ⊎ answered
 abbrev pub IsOpenAt : {F : Type 0} → (PathCall F → Type 0) → List ℕ → List ℕ → List (KeptFile F) → List (KeptFile F) → ℕ → Type 0
 IsOpenAt {F} answered path name before after place = (file : F) × IsFileAt place after file × IsOpenFile answered path name before file
 
--- The path of that name in the directory
+-- The path of that name in the directory.
 abbrev pub path_of : {R F : Type 0} → Folder R F → List ℕ → List ℕ
 path_of folder name = path_in (string_bytes folder.path) name
 
@@ -28,12 +28,12 @@ OfFile {R} {F} answered P name folder =
     (file : F) × IsOpenFile (λ call. answered call folder.system) (path_of folder name) name folder.kept.files.items file × P file
 
 -- The same, or no file of that name is there, and that is so.
-abbrev pub OfFileOr : {R F : Type 0} → (PathCall F → R → Type 0) → Type 0 → (F → Type 0) → List ℕ → Folder R F → Type 0
-OfFileOr answered Q P name folder = OfFile answered P name folder ⊎ (answered (Missed (path_of folder name)) folder.system × Q)
+abbrev pub OfFileOrMissed : {R F : Type 0} → (PathCall F → R → Type 0) → Type 0 → (F → Type 0) → List ℕ → Folder R F → Type 0
+OfFileOrMissed answered Q P name folder = OfFile answered P name folder ⊎ (answered (Missed (path_of folder name)) folder.system × Q)
 
 -- What lies at that path was opened, and settled whole.
 abbrev pub IsSettledAt : {F : Type 0} → (PathCall F → Type 0) → (FileCall → F → Type 0) → List ℕ → Type 0
-IsSettledAt {F} by_path by_file path = (file : F) × by_path (Opened path file) × by_file SettledAll file
+IsSettledAt {F} by_path by_file path = (file : F) × by_path (OpenedToSettle path file) × by_file SettledAll file
 
 -- These are the names that were listed in the directory, in byte order.
 abbrev pub IsListing : {R F : Type 0} → (PathCall F → R → Type 0) → List (List ℕ) → Folder R F → Type 0
@@ -46,14 +46,14 @@ pub record IsSameFolder {R F : Type 0} (before after : Folder R F) : Type 0 wher
   pub path : after.path ≡ before.path
   pub directory : after.kept.directory ≡ before.kept.directory
 
--- Each file that is open was so before under that name, or was opened or made now, at the path of it.
+-- Each file that is open was so before under that name, or was opened or made at the path of it.
 abbrev pub OpensByName : {R F : Type 0} → (PathCall F → R → Type 0) → Folder R F → Folder R F → Type 0
 OpensByName {F = F} answered before after =
     (name : List ℕ) (file : F) → IsOpenAs name file after.kept.files.items
     → IsOpenFile (λ call. answered call before.system) (path_of before name) name before.kept.files.items file ⊎ answered (Made (path_of before name) file) before.system
 
--- The same directory, whose files are those of their names, and what they and the names await is kept.
-pub record KeepsAwaiting {R F : Type 0} (answered : PathCall F → R → Type 0) (before after : Folder R F) : Type 0 where
+-- The same directory. Each open file is the one at its name's path, and what awaited a sync still does.
+pub record KeepsFolder {R F : Type 0} (answered : PathCall F → R → Type 0) (before after : Folder R F) : Type 0 where
   pub same : IsSameFolder before after
   pub opens : OpensByName answered before after
   pub files : StillAwaits before.kept.files.items after.kept.files.items
@@ -63,21 +63,21 @@ pub record KeepsAwaiting {R F : Type 0} (answered : PathCall F → R → Type 0)
 abbrev pub IsSettledWhole : {R F : Type 0} → Folder R F → Type 0
 IsSettledWhole folder = All AwaitsNothing folder.kept.files.items × (folder.kept.names_await ≡ false)
 
--- A directory was opened: it was made where it wasn't there, and it, its files and the one above it were settled.
-pub record IsOpened {R F : Type 0} (by_path : PathCall F → R → Type 0) (by_file : FileCall → F → Type 0) (place : List ℕ) (folder : Folder R F) : Type 0 where
+-- A directory was opened: it was asked to be made, and it, its files and the one above it were settled whole.
+pub record IsOpenedFolder {R F : Type 0} (by_path : PathCall F → R → Type 0) (by_file : FileCall → F → Type 0) (place : List ℕ) (folder : Folder R F) : Type 0 where
   pub path : string_bytes folder.path ≡ place
   pub made : by_path (MadeDirectory place) folder.system
   pub above : IsSettledAt (λ call. by_path call folder.system) by_file (directory_above place)
-  pub directory : by_path (Opened place folder.kept.directory) folder.system
+  pub directory : by_path (OpenedToSettle place folder.kept.directory) folder.system
   pub names : by_file SettledAll folder.kept.directory
   pub files : (listed : List (List ℕ)) × by_path (Listed place listed) folder.system × All (λ name. IsSettledAt (λ call. by_path call folder.system) by_file (path_in place name)) listed
   pub settled : IsSettledWhole folder
 
--- A file was made, and the names await a sync, or one that was there was emptied; it awaits a sync of everything.
-pub record HasMade {R F : Type 0} (by_path : PathCall F → R → Type 0) (by_file : FileCall → F → Type 0) (name : List ℕ) (before after : Folder R F) : Type 0 where
-  pub made : OfFile by_path (by_file (CutTo 0)) name before
-      ⊎ (((file : F) × by_path (Made (path_of before name) file) before.system) × (after.kept.names_await ≡ true))
-  pub marked : Awaiting name Everything after.kept.files.items
+-- A file that was there was emptied, or one was made, and the names await a sync; it awaits a sync of everything.
+abbrev pub HasMade : {R F : Type 0} → (PathCall F → R → Type 0) → (FileCall → F → Type 0) → List ℕ → Folder R F → Folder R F → Type 0
+HasMade {F = F} by_path by_file name before after =
+    OfFile by_path (λ file. by_file (CutTo 0) file × Awaiting name file Everything after.kept.files.items) name before
+    ⊎ (((file : F) × by_path (Made (path_of before name) file) before.system × Awaiting name file Everything after.kept.files.items) × (after.kept.names_await ≡ true))
 
 -- A file was removed.
 pub record HasRemoved {R F : Type 0} (answered : PathCall F → R → Type 0) (name : List ℕ) (before after : Folder R F) : Type 0 where
@@ -93,11 +93,11 @@ pub record HasRenamed {R F : Type 0} (answered : PathCall F → R → Type 0) (f
   pub names : after.kept.names_await ≡ true
 
 -- Names may have changed, and await a sync; the files are the same.
-pub record MayHaveChanged {R F : Type 0} (before after : Folder R F) : Type 0 where
+pub record NamesMayHaveChanged {R F : Type 0} (before after : Folder R F) : Type 0 where
   pub files : after.kept.files.items ≡ before.kept.files.items
   pub names : after.kept.names_await ≡ true
 
 -- What awaited a sync fell by an answer of one alone.
-pub record Settles {R F : Type 0} (answered : FileCall → F → Type 0) (before after : Folder R F) : Type 0 where
+pub record SettlesFiles {R F : Type 0} (answered : FileCall → F → Type 0) (before after : Folder R F) : Type 0 where
   pub files : AllZip (FallsByAnswer answered) before.kept.files.items after.kept.files.items
   pub names : (after.kept.names_await ≡ before.kept.names_await) ⊎ ((after.kept.names_await ≡ false) × answered SettledAll before.kept.directory)

@@ -7,8 +7,8 @@ use Rattle.weed_base.specs.declared.real.folder.Folder.{Folder}
 use Rattle.weed_base.specs.declared.real.dir_disk.DirDisk.{DirDisk}
 
 -- A sync or an attach failed: no directory is attached.
-abbrev pub IsBroken : {R F : Type 0} → DirDisk R F → Type 0
-IsBroken disk = (disk.folder ≡ None) × (disk.broken ≡ true)
+abbrev pub IsBrokenOff : {R F : Type 0} → DirDisk R F → Type 0
+IsBrokenOff disk = (disk.folder ≡ None) × (disk.broken ≡ true)
 
 -- One call was made of a disk that tells no image.
 abbrev pub Ticks : {R F : Type 0} → DirDisk R F → DirDisk R F → Type 0
@@ -16,9 +16,9 @@ Ticks old new = Elapses old.counts.made new.counts.made (λ _ _. ⊥) (λ _ _. �
 
 -- After a sync or an attach that failed a call fails, and so does each later one.
 abbrev pub StaysBroken : {R F T E : Type 0} → DirDisk R F → DirDisk R F → Result T E → Type 0
-StaysBroken old new result = IsBroken old → IsErr result × IsBroken new
+StaysBroken old new result = IsBrokenOff old → IsErr result × IsBrokenOff new
 
--- A call but an attach and a listing was made: it counted its fault, failed at the last number, and turned nowhere.
+-- A call, but for an attach or a listing: it counted its fault, fails at the last number, and turned nowhere.
 pub record IsCalled {R F T E : Type 0} (old new : DirDisk R F) (result : Result T E) : Type 0 where
   pub time : Ticks old new
   pub spent : old.counts.made ≡ 2 ^ 64 - 1 → IsErr result
@@ -31,5 +31,5 @@ abbrev pub BothAttached : {R F : Type 0} → (Folder R F → Folder R F → Type
 BothAttached P old new = IsSomeAnd old.folder (λ before. IsSomeAnd new.folder (P before))
 
 -- The same, or none is attached before and after.
-abbrev pub Leaves : {R F : Type 0} → (Folder R F → Folder R F → Type 0) → DirDisk R F → DirDisk R F → Type 0
-Leaves P old new = BothTold P old.folder new.folder
+abbrev pub BothOrNone : {R F : Type 0} → (Folder R F → Folder R F → Type 0) → DirDisk R F → DirDisk R F → Type 0
+BothOrNone P old new = BothTold P old.folder new.folder

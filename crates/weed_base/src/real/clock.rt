@@ -1,4 +1,4 @@
-ghost use Rattle.std.specs.Prelude.{None};
+ghost use Rattle.std.specs.Prelude.{◌≡◌, None};
 
 use crate::clock::Clock;
 use std::rt;
@@ -11,7 +11,10 @@ pub struct SystemClock<R> {
 }
 
 impl<R: rt::Clock> SystemClock<R> {
-    pub fn new(rt: R) -> SystemClock<R> {
+    /// The clock of this runtime.
+    pub fn new(rt: R) -> SystemClock<R>
+        ensures { result ≡ record { rt = rt } }
+    {
         SystemClock { rt }
     }
 }

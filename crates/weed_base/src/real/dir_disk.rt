@@ -6,8 +6,9 @@ ghost use Rattle.weed_base.specs.Told.{raised, HasCause, IsCauseOf};
 ghost use Rattle.weed_base.specs.Files.{ReadsAt};
 ghost use Rattle.weed_base.specs.System.{Wrote, CutTo, Missed};
 ghost use Rattle.weed_base.specs.Awaiting.{Awaiting};
-ghost use Rattle.weed_base.specs.Folder.{OfFile, OfFileOr, IsListing, IsOpened, IsSameFolder, KeepsAwaiting, HasMade, HasRemoved, HasRenamed, MayHaveChanged, Settles, IsSettledWhole, path_of};
-ghost use Rattle.weed_base.specs.RealForms.{IsBroken, IsCalled, Ticks, StaysBroken, BothAttached, Leaves};
+ghost use Rattle.weed_base.specs.Folder.{OfFile, OfFileOrMissed, IsListing, IsOpenedFolder, IsSameFolder, KeepsFolder, HasMade, HasRemoved, HasRenamed, NamesMayHaveChanged, SettlesFiles, IsSettledWhole, path_of};
+ghost use Rattle.weed_base.specs.declared.real.folder.Folder.{Folder};
+ghost use Rattle.weed_base.specs.RealForms.{IsBrokenOff, IsCalled, Ticks, StaysBroken, BothAttached, BothOrNone};
 ghost use Rattle.weed_base.specs.declared.real.kept.Awaits.TheVariants.{Data, Everything};
 
 use crate::attachment::Attachment;
@@ -50,8 +51,8 @@ impl Counts {
 /// A disk over a directory of the system. Contracts see how many calls were made, how many failed, where it was
 /// turned to, and which calls of the system answered.
 ///
-/// Each call fails before it is attached, and after a sync or an attach that failed: the system may have dropped
-/// what was written.
+/// Each other call fails before an attach, and each call after an attach that failed, or a sync of what was
+/// attached: the system may have dropped what was written. A call that lacks memory counts a fault, but for a listing.
 #[derive(Drop)]
 pub struct DirDisk<R, F = File> {
     system: R,
@@ -62,6 +63,7 @@ pub struct DirDisk<R, F = File> {
 }
 
 impl<F: SystemFile + Drop, R: System<File = F> + AllocGlobal + Clone + Drop> DirDisk<R, F> {
+    /// A disk that is attached to no directory yet.
     pub fn new(system: R) -> DirDisk<R, F>
         ensures { result ≡ record { system = system; folder = None; broken = false; counts = record { made = 0; faults = 0 }; attachment = unattached } }
     {
@@ -86,18 +88,18 @@ impl<F: SystemFile + Drop, R: System<File = F> + AllocGlobal + Clone + Drop> Dir
 
     /// Lets the directory go, and takes no other.
     fn break_off(&mut self)
-        ensures broken { IsBroken self.new }
+        ensures broken { IsBrokenOff self.new }
         ensures rest { (self.new.counts ≡ self.old.counts) × (self.new.attachment ≡ self.old.attachment) }
     {
         self.folder = None;
         self.broken = true;
     }
 
-    /// Settles the directory that is attached, and opens another.
+    /// SettlesFiles the directory that is attached, and opens another.
     fn open(&mut self, place: &[u8]) -> io::Result<Folder<R, F>>
-        ensures broken { IsBroken self.old → IsErr result }
-        ensures opened { IfOk result (IsOpened R.answered F.answered place.now) }
-        ensures left { OnOk result (Leaves (λ before after. Settles F.answered before after × IsSettledWhole after) self.old self.new) }
+        ensures broken { IsBrokenOff self.old → IsErr result }
+        ensures opened { IfOk result (IsOpenedFolder R.answered F.answered place.now) }
+        ensures left { OnOk result (BothOrNone (λ before after. SettlesFiles F.answered before after × IsSettledWhole after) self.old self.new) }
         ensures rest { (self.new.counts ≡ self.old.counts) × (self.new.attachment ≡ self.old.attachment) }
     {
         if self.broken {
@@ -150,8 +152,9 @@ impl<F: SystemFile + Drop, R: System<File = F> + AllocGlobal + Clone + Drop> Dis
         ensures breaks { StaysBroken self.old self.new result }
         ensures cause { HasCause self.old.counts.faults self.new.counts.faults result }
         ensures attached { Attaches place self.old.counts.made self.old.attachment self.new.attachment result }
-        ensures opened { OnOk result (IsSomeAnd self.new.folder (IsOpened R.answered F.answered place)) }
-        ensures broken { OnErr result ((self.old.counts.made ≡ 2 ^ 64 - 1) ⊎ IsBroken self.new) }
+        ensures settled { OnOk result (IfSome self.old.folder (λ before. (after : Folder R F) × (SettlesFiles F.answered before after × IsSettledWhole after))) }
+        ensures opened { OnOk result (IsSomeAnd self.new.folder (IsOpenedFolder R.answered F.answered place)) }
+        ensures broken { OnErr result ((self.old.counts.made ≡ 2 ^ 64 - 1) ⊎ IsBrokenOff self.new) }
     {
         let tick = self.counts.made;
         self.counts.begin()?;
@@ -196,7 +199,7 @@ impl<F: SystemFile + Drop, R: System<File = F> + AllocGlobal + Clone + Drop> Dis
 
     fn size(&mut self, name: &FileName) -> Result<Option<u64>, Failed>
         ensures called { IsCalled self.old self.new result }
-        ensures keeps { Leaves (KeepsAwaiting R.answered) self.old self.new }
+        ensures keeps { BothOrNone (KeepsFolder R.answered) self.old self.new }
         ensures size { IfOk result (λ size. IsSomeAnd self.old.folder (λ folder. MatchOption size (R.answered (Missed (path_of folder name.now)) folder.system)
             (λ size. OfFile R.answered (λ file. IfSome (F.bytes file) (λ told. size ≡ length told)) name.now folder))) }
     {
@@ -210,10 +213,10 @@ impl<F: SystemFile + Drop, R: System<File = F> + AllocGlobal + Clone + Drop> Dis
 
     fn read_at(&mut self, name: &FileName, at: u64, room: &mut [u8]) -> Result<usize, Failed>
         ensures called { IsCalled self.old self.new result }
-        ensures keeps { Leaves (KeepsAwaiting R.answered) self.old self.new }
+        ensures keeps { BothOrNone (KeepsFolder R.answered) self.old self.new }
         ensures bound { IfOk result (λ count. count ≤ length room.new) }
         ensures read { IfOk result (λ count. IsSomeAnd self.old.folder
-            (OfFileOr R.answered (count ≡ 0) (λ file. IfSome (F.bytes file) (λ told. ReadsAt told at count room.new)) name.now)) }
+            (OfFileOrMissed R.answered (count ≡ 0) (λ file. IfSome (F.bytes file) (λ told. ReadsAt told at count room.new)) name.now)) }
     {
         self.counts.begin()?;
         let Some(folder) = &mut self.folder else {
@@ -225,10 +228,10 @@ impl<F: SystemFile + Drop, R: System<File = F> + AllocGlobal + Clone + Drop> Dis
 
     fn write_at(&mut self, name: &FileName, at: u64, piece: &[u8]) -> Result<(), Failed>
         ensures called { IsCalled self.old self.new result }
-        ensures keeps { Leaves (KeepsAwaiting R.answered) self.old self.new }
+        ensures keeps { BothOrNone (KeepsFolder R.answered) self.old self.new }
         ensures bound { OnOk result (at + length piece.now < 2 ^ 63) }
-        ensures written { OnOk result (BothAttached (λ before after. OfFile R.answered (F.answered (Wrote at piece.now)) name.now before
-            × Awaiting name.now Data after.kept.files.items) self.old self.new) }
+        ensures written { OnOk result (BothAttached (λ before after. OfFile R.answered
+            (λ file. F.answered (Wrote at piece.now) file × Awaiting name.now file Data after.kept.files.items) name.now before) self.old self.new) }
     {
         self.counts.begin()?;
         let Some(folder) = &mut self.folder else {
@@ -240,9 +243,9 @@ impl<F: SystemFile + Drop, R: System<File = F> + AllocGlobal + Clone + Drop> Dis
 
     fn cut(&mut self, name: &FileName, to: u64) -> Result<(), Failed>
         ensures called { IsCalled self.old self.new result }
-        ensures keeps { Leaves (KeepsAwaiting R.answered) self.old self.new }
-        ensures cut { OnOk result (BothAttached (λ before after. OfFile R.answered (F.answered (CutTo to)) name.now before
-            × Awaiting name.now Everything after.kept.files.items) self.old self.new) }
+        ensures keeps { BothOrNone (KeepsFolder R.answered) self.old self.new }
+        ensures cut { OnOk result (BothAttached (λ before after. OfFile R.answered
+            (λ file. F.answered (CutTo to) file × Awaiting name.now file Everything after.kept.files.items) name.now before) self.old self.new) }
     {
         self.counts.begin()?;
         let Some(folder) = &mut self.folder else {
@@ -254,7 +257,7 @@ impl<F: SystemFile + Drop, R: System<File = F> + AllocGlobal + Clone + Drop> Dis
 
     fn make(&mut self, name: &FileName) -> Result<(), Failed>
         ensures called { IsCalled self.old self.new result }
-        ensures keeps { Leaves (KeepsAwaiting R.answered) self.old self.new }
+        ensures keeps { BothOrNone (KeepsFolder R.answered) self.old self.new }
         ensures made { OnOk result (BothAttached (HasMade R.answered F.answered name.now) self.old self.new) }
     {
         self.counts.begin()?;
@@ -267,9 +270,9 @@ impl<F: SystemFile + Drop, R: System<File = F> + AllocGlobal + Clone + Drop> Dis
 
     fn remove(&mut self, name: &FileName) -> Result<(), Failed>
         ensures called { IsCalled self.old self.new result }
-        ensures keeps { Leaves IsSameFolder self.old self.new }
+        ensures same { BothOrNone IsSameFolder self.old self.new }
         ensures removed { OnOk result (BothAttached (HasRemoved R.answered name.now) self.old self.new) }
-        ensures failed { OnErr result ((self.new.folder ≡ self.old.folder) ⊎ BothAttached MayHaveChanged self.old self.new) }
+        ensures failed { OnErr result ((self.new.folder ≡ self.old.folder) ⊎ BothAttached NamesMayHaveChanged self.old self.new) }
     {
         self.counts.begin()?;
         let Some(folder) = &mut self.folder else {
@@ -281,9 +284,9 @@ impl<F: SystemFile + Drop, R: System<File = F> + AllocGlobal + Clone + Drop> Dis
 
     fn rename(&mut self, from: &FileName, to: &FileName) -> Result<(), Failed>
         ensures called { IsCalled self.old self.new result }
-        ensures keeps { Leaves IsSameFolder self.old self.new }
+        ensures same { BothOrNone IsSameFolder self.old self.new }
         ensures renamed { OnOk result (BothAttached (HasRenamed R.answered from.now to.now) self.old self.new) }
-        ensures failed { OnErr result ((self.new.folder ≡ self.old.folder) ⊎ BothAttached MayHaveChanged self.old self.new) }
+        ensures failed { OnErr result ((self.new.folder ≡ self.old.folder) ⊎ BothAttached NamesMayHaveChanged self.old self.new) }
     {
         self.counts.begin()?;
         let Some(folder) = &mut self.folder else {
@@ -295,14 +298,14 @@ impl<F: SystemFile + Drop, R: System<File = F> + AllocGlobal + Clone + Drop> Dis
 
     fn sync(&mut self) -> Result<(), Failed>
         ensures called { IsCalled self.old self.new result }
-        ensures settled { OnOk result (BothAttached (λ before after. IsSameFolder before after × Settles F.answered before after × IsSettledWhole after) self.old self.new) }
-        ensures broken { OnErr result ((self.old.counts.made ≡ 2 ^ 64 - 1) ⊎ IsBroken self.new) }
+        ensures settled { OnOk result (BothAttached (λ before after. IsSameFolder before after × SettlesFiles F.answered before after × IsSettledWhole after) self.old self.new) }
+        ensures broken { OnErr result ((self.old.counts.made ≡ 2 ^ 64 - 1) ⊎ (self.old.folder ≡ None) ⊎ IsBrokenOff self.new) }
     {
         self.counts.begin()?;
-        let answer = match &mut self.folder {
-            Some(folder) => folder.sync(),
-            None => Err(io::ErrorKind::NotConnected.into()),
+        let Some(folder) = &mut self.folder else {
+            return Err(self.counts.faults.raise());
         };
+        let answer = folder.sync();
         if answer.is_err() {
             self.break_off();
         }

@@ -4,7 +4,7 @@ ghost use Rattle.std.specs.List.{All};
 ghost use Rattle.weed_base.specs.Files.{ReadsAt, ReadsSome};
 ghost use Rattle.weed_base.specs.System.{Wrote, CutTo, MadeDirectory, Opened, Missed, Made, path_in, directory_above};
 ghost use Rattle.weed_base.specs.Awaiting.{Awaiting, IsNamedAt, IsFileAt};
-ghost use Rattle.weed_base.specs.Folder.{IsOpenAt, OfFile, OfFileOr, IsSettledAt, IsListing, IsOpened, IsSameFolder, KeepsAwaiting, HasMade, HasRemoved, HasRenamed, MayHaveChanged, Settles, IsSettledWhole, path_of};
+ghost use Rattle.weed_base.specs.Folder.{IsOpenAt, OfFile, OfFileOrMissed, IsSettledAt, IsListing, IsOpenedFolder, IsSameFolder, KeepsFolder, HasMade, HasRemoved, HasRenamed, NamesMayHaveChanged, SettlesFiles, IsSettledWhole, path_of};
 
 use crate::file_name::FileName;
 use crate::real::kept::{Awaits, KeptFile, KeptFiles, MAX_END};
@@ -68,11 +68,11 @@ fn path_in(alloc: Global, path: &str, name: &FileName) -> io::Result<String>
     Ok(format!(in alloc; "{path}/{name}")?)
 }
 
-/// Settles what lies at a path.
+/// SettlesFiles what lies at a path.
 fn settle_at<F: SystemFile + Drop, R: System<File = F>>(system: &R, path: &str) -> io::Result<()>
     ensures { OnOk result (IsSettledAt (λ call. R.answered call system.now) F.answered path.now) }
 {
-    system.open(path)?.settle_all()
+    system.open_to_settle(path)?.settle_all()
 }
 
 /// Makes the directory where it isn't there, and settles its name: an earlier process may have been stopped
@@ -85,7 +85,7 @@ fn make_folder<F: SystemFile + Drop, R: System<File = F>>(system: &R, place: &st
     settle_at(system, directory_above(place))
 }
 
-/// Settles each file of these names in the directory.
+/// SettlesFiles each file of these names in the directory.
 fn settle_each<F: SystemFile + Drop, R: System<File = F> + AllocGlobal>(
     system: &R,
     place: &str,
@@ -112,11 +112,11 @@ impl<F: SystemFile + Drop, R: System<File = F> + AllocGlobal + Drop> Folder<R, F
     /// Opens a directory, which is made where it isn't there, and settles it, since an earlier process may
     /// have left it unsettled.
     pub(crate) fn open(system: R, place: &[u8]) -> io::Result<Folder<R, F>>
-        ensures { IfOk result (IsOpened R.answered F.answered place.now) }
+        ensures { IfOk result (IsOpenedFolder R.answered F.answered place.now) }
     {
         let place = text_of(place)?;
         make_folder(&system, place)?;
-        let directory = system.open(place)?;
+        let mut directory = system.open_to_settle(place)?;
         let names = system.list(system.alloc(), place)?;
         settle_each(&system, place, names.as_slice())?;
         directory.settle_all()?;
@@ -144,8 +144,8 @@ impl<F: SystemFile + Drop, R: System<File = F> + AllocGlobal + Drop> Folder<R, F
 
     /// Notes that a name may be made or taken away.
     fn note_names(&mut self)
-        ensures keeps { KeepsAwaiting R.answered self.old self.new }
-        ensures noted { MayHaveChanged self.old self.new }
+        ensures keeps { KeepsFolder R.answered self.old self.new }
+        ensures noted { NamesMayHaveChanged self.old self.new }
     {
         self.kept.note_names();
     }
@@ -154,8 +154,8 @@ impl<F: SystemFile + Drop, R: System<File = F> + AllocGlobal + Drop> Folder<R, F
     fn keep(&mut self, name: &FileName, file: F, awaits: Awaits) -> io::Result<usize>
         requires { R.answered (Opened (path_of self.old name.now) file) self.old.system ⊎ R.answered (Made (path_of self.old name.now) file) self.old.system }
         ensures kept { IfOk result (λ place. IsNamedAt name.now place self.new.kept.files.items × IsFileAt place self.new.kept.files.items file) }
-        ensures marked { OnOk result (Awaiting name.now awaits self.new.kept.files.items) }
-        ensures keeps { KeepsAwaiting R.answered self.old self.new }
+        ensures marked { OnOk result (Awaiting name.now file awaits self.new.kept.files.items) }
+        ensures keeps { KeepsFolder R.answered self.old self.new }
         ensures names { self.new.kept.names_await ≡ self.old.kept.names_await }
     {
         self.kept.keep(KeptFile::new(name.copy(), file, awaits))
@@ -166,7 +166,7 @@ impl<F: SystemFile + Drop, R: System<File = F> + AllocGlobal + Drop> Folder<R, F
         ensures place { IfOk result (λ found. IfSome found (λ place. IsNamedAt name.now place self.new.kept.files.items)) }
         ensures opened { IfOk result (λ found. MatchOption found (R.answered (Missed (path_of self.old name.now)) self.old.system)
             (IsOpenAt (λ call. R.answered call self.old.system) (path_of self.old name.now) name.now self.old.kept.files.items self.new.kept.files.items)) }
-        ensures keeps { KeepsAwaiting R.answered self.old self.new }
+        ensures keeps { KeepsFolder R.answered self.old self.new }
     {
         if let Some(place) = self.kept.place_of(name) {
             return Ok(Some(place));
@@ -182,7 +182,7 @@ impl<F: SystemFile + Drop, R: System<File = F> + AllocGlobal + Drop> Folder<R, F
     pub(crate) fn size(&mut self, name: &FileName) -> io::Result<Option<u64>>
         ensures size { IfOk result (λ size. MatchOption size (R.answered (Missed (path_of self.old name.now)) self.old.system)
             (λ size. OfFile R.answered (λ file. IfSome (F.bytes file) (λ told. size ≡ length told)) name.now self.old)) }
-        ensures keeps { KeepsAwaiting R.answered self.old self.new }
+        ensures keeps { KeepsFolder R.answered self.old self.new }
     {
         match self.place_of(name)? {
             Some(place) => Ok(Some(self.kept.file(place).size()?)),
@@ -194,8 +194,8 @@ impl<F: SystemFile + Drop, R: System<File = F> + AllocGlobal + Drop> Folder<R, F
     /// how many; none where the file isn't there.
     pub(crate) fn read_at(&mut self, name: &FileName, at: u64, room: &mut [u8]) -> io::Result<usize>
         ensures bound { IfOk result (λ count. count ≤ length room.new) }
-        ensures read { IfOk result (λ count. OfFileOr R.answered (count ≡ 0) (λ file. IfSome (F.bytes file) (λ told. ReadsAt told at count room.new)) name.now self.old) }
-        ensures keeps { KeepsAwaiting R.answered self.old self.new }
+        ensures read { IfOk result (λ count. OfFileOrMissed R.answered (count ≡ 0) (λ file. IfSome (F.bytes file) (λ told. ReadsAt told at count room.new)) name.now self.old) }
+        ensures keeps { KeepsFolder R.answered self.old self.new }
     {
         match self.place_of(name)? {
             Some(place) => read_full(self.kept.file(place), at, room),
@@ -205,10 +205,9 @@ impl<F: SystemFile + Drop, R: System<File = F> + AllocGlobal + Drop> Folder<R, F
 
     /// Writes the piece over what is there, and past the end.
     pub(crate) fn write_at(&mut self, name: &FileName, at: u64, piece: &[u8]) -> io::Result<()>
-        ensures written { OnOk result (OfFile R.answered (F.answered (Wrote at piece.now)) name.now self.old) }
-        ensures marked { OnOk result (Awaiting name.now Awaits.Data self.new.kept.files.items) }
+        ensures written { OnOk result (OfFile R.answered (λ file. F.answered (Wrote at piece.now) file × Awaiting name.now file Awaits.Data self.new.kept.files.items) name.now self.old) }
         ensures bound { OnOk result (at + length piece.now < 2 ^ 63) }
-        ensures keeps { KeepsAwaiting R.answered self.old self.new }
+        ensures keeps { KeepsFolder R.answered self.old self.new }
     {
         match self.place_of(name)? {
             Some(place) => self.kept.write_at(place, at, piece),
@@ -218,9 +217,8 @@ impl<F: SystemFile + Drop, R: System<File = F> + AllocGlobal + Drop> Folder<R, F
 
     /// Cuts a file to a length.
     pub(crate) fn cut(&mut self, name: &FileName, to: u64) -> io::Result<()>
-        ensures cut { OnOk result (OfFile R.answered (F.answered (CutTo to)) name.now self.old) }
-        ensures marked { OnOk result (Awaiting name.now Awaits.Everything self.new.kept.files.items) }
-        ensures keeps { KeepsAwaiting R.answered self.old self.new }
+        ensures cut { OnOk result (OfFile R.answered (λ file. F.answered (CutTo to) file × Awaiting name.now file Awaits.Everything self.new.kept.files.items) name.now self.old) }
+        ensures keeps { KeepsFolder R.answered self.old self.new }
     {
         match self.place_of(name)? {
             Some(place) => self.kept.cut(place, to),
@@ -230,9 +228,8 @@ impl<F: SystemFile + Drop, R: System<File = F> + AllocGlobal + Drop> Folder<R, F
 
     /// Makes a file that isn't there.
     fn make_new(&mut self, name: &FileName) -> io::Result<()>
-        ensures made { OnOk result ((file : F) × R.answered (Made (path_of self.old name.now) file) self.old.system) }
-        ensures marked { OnOk result (Awaiting name.now Awaits.Everything self.new.kept.files.items) }
-        ensures keeps { KeepsAwaiting R.answered self.old self.new }
+        ensures made { OnOk result ((file : F) × R.answered (Made (path_of self.old name.now) file) self.old.system × Awaiting name.now file Awaits.Everything self.new.kept.files.items) }
+        ensures keeps { KeepsFolder R.answered self.old self.new }
         ensures names { self.new.kept.names_await ≡ true }
     {
         self.note_names();
@@ -245,7 +242,7 @@ impl<F: SystemFile + Drop, R: System<File = F> + AllocGlobal + Drop> Folder<R, F
     /// Makes a file, or empties the one that is there.
     pub(crate) fn make(&mut self, name: &FileName) -> io::Result<()>
         ensures made { OnOk result (HasMade R.answered F.answered name.now self.old self.new) }
-        ensures keeps { KeepsAwaiting R.answered self.old self.new }
+        ensures keeps { KeepsFolder R.answered self.old self.new }
     {
         match self.place_of(name)? {
             Some(place) => self.kept.cut(place, 0),
@@ -256,7 +253,7 @@ impl<F: SystemFile + Drop, R: System<File = F> + AllocGlobal + Drop> Folder<R, F
     /// Removes a file, where it is there.
     pub(crate) fn remove(&mut self, name: &FileName) -> io::Result<()>
         ensures removed { OnOk result (HasRemoved R.answered name.now self.old self.new) }
-        ensures failed { OnErr result (MayHaveChanged self.old self.new) }
+        ensures failed { OnErr result (NamesMayHaveChanged self.old self.new) }
         ensures same { IsSameFolder self.old self.new }
     {
         self.note_names();
@@ -269,7 +266,7 @@ impl<F: SystemFile + Drop, R: System<File = F> + AllocGlobal + Drop> Folder<R, F
     /// Renames a file, which takes the place of what had the new name.
     pub(crate) fn rename(&mut self, from: &FileName, to: &FileName) -> io::Result<()>
         ensures renamed { OnOk result (HasRenamed R.answered from.now to.now self.old self.new) }
-        ensures failed { OnErr result (MayHaveChanged self.old self.new) }
+        ensures failed { OnErr result (NamesMayHaveChanged self.old self.new) }
         ensures same { IsSameFolder self.old self.new }
     {
         self.note_names();
@@ -282,9 +279,9 @@ impl<F: SystemFile + Drop, R: System<File = F> + AllocGlobal + Drop> Folder<R, F
         Ok(())
     }
 
-    /// Settles each file that was made, written or cut since the last sync, and the names.
+    /// SettlesFiles each file that was made, written or cut since the last sync, and the names.
     pub(crate) fn sync(&mut self) -> io::Result<()>
-        ensures falls { Settles F.answered self.old self.new }
+        ensures falls { SettlesFiles F.answered self.old self.new }
         ensures settled { OnOk result (IsSettledWhole self.new) }
         ensures same { IsSameFolder self.old self.new }
     {

@@ -12,15 +12,16 @@ use crate::real::system::SystemFile;
 use std::alloc::Global;
 use std::io;
 
-/// So many files are kept open, besides those that await a sync.
+/// Once so many files are open, those that await nothing are let go.
 const MAX_KEPT: usize = 64;
 
-/// No file is longer.
+/// The greatest length of a file, in bytes.
 pub(super) const MAX_END: u64 = (1 << 63) - 1;
 
 /// What a file awaits of the next sync.
 #[derive(Clone, Copy, PartialEq, Eq, Drop)]
 pub(super) enum Awaits {
+    /// It is settled.
     Nothing,
     /// Bytes were written, and maybe past the end.
     Data,
@@ -28,6 +29,7 @@ pub(super) enum Awaits {
     Everything,
 }
 
+/// An open file, its name, and what it awaits.
 #[derive(Drop)]
 pub(super) struct KeptFile<F> {
     name: FileName,
@@ -42,7 +44,7 @@ impl<F: SystemFile + Drop> KeptFile<F> {
         KeptFile { name, file, awaits }
     }
 
-    /// Settles what it awaits.
+    /// SettlesFiles what it awaits.
     fn sync(&mut self) -> io::Result<()>
         ensures mark { FallsByAnswer F.answered self.old self.new }
         ensures settled { OnOk result (AwaitsNothing self.new) }
@@ -86,6 +88,7 @@ impl<F: SystemFile + Drop> KeptFile<F> {
     }
 }
 
+/// SettlesFiles what each of them awaits, up to the first that fails.
 fn sync_each<F: SystemFile + Drop>(files: &mut [KeptFile<F>]) -> io::Result<()>
     ensures marks { AllZip (FallsByAnswer F.answered) files.old files.new }
     ensures settled { OnOk result (All AwaitsNothing files.new) }
@@ -148,7 +151,7 @@ impl<F: SystemFile + Drop> KeptFiles<F> {
     /// Keeps an open file, and answers its place.
     pub(super) fn keep(&mut self, opened: KeptFile<F>) -> io::Result<usize>
         ensures kept { IfOk result (λ place. IsNamedAt opened.name place self.new.files.items × IsFileAt place self.new.files.items opened.file) }
-        ensures marked { OnOk result (Awaiting opened.name opened.awaits self.new.files.items) }
+        ensures marked { OnOk result (Awaiting opened.name opened.file opened.awaits self.new.files.items) }
         ensures still { StillAwaits self.old.files.items self.new.files.items }
         ensures only { (name : List ℕ) (file : F) → IsOpenAs name file self.new.files.items
             → IsOpenAs name file self.old.files.items ⊎ ((opened.name ≡ name) × (opened.file ≡ file)) }
@@ -165,7 +168,8 @@ impl<F: SystemFile + Drop> KeptFiles<F> {
     pub(super) fn write_at(&mut self, place: usize, at: u64, piece: &[u8]) -> io::Result<()>
         requires { place < length self.old.files.items }
         ensures fits { OnOk result (at + length piece.now < 2 ^ 63) }
-        ensures marked { (name : List ℕ) → IsNamedAt name place self.old.files.items → at + length piece.now < 2 ^ 63 → Awaiting name Awaits.Data self.new.files.items }
+        ensures marked { (name : List ℕ) (file : F) → IsNamedAt name place self.old.files.items → IsFileAt place self.old.files.items file
+            → at + length piece.now < 2 ^ 63 → Awaiting name file Awaits.Data self.new.files.items }
         ensures written { (file : F) → IsFileAt place self.old.files.items file → OnOk result (F.answered (Wrote at piece.now) file) }
         ensures still { StillAwaits self.old.files.items self.new.files.items }
         ensures only { OpensNone self.old.files.items self.new.files.items }
@@ -178,7 +182,8 @@ impl<F: SystemFile + Drop> KeptFiles<F> {
     /// Cuts the file at that place.
     pub(super) fn cut(&mut self, place: usize, to: u64) -> io::Result<()>
         requires { place < length self.old.files.items }
-        ensures marked { (name : List ℕ) → IsNamedAt name place self.old.files.items → Awaiting name Awaits.Everything self.new.files.items }
+        ensures marked { (name : List ℕ) (file : F) → IsNamedAt name place self.old.files.items → IsFileAt place self.old.files.items file
+            → Awaiting name file Awaits.Everything self.new.files.items }
         ensures cut { (file : F) → IsFileAt place self.old.files.items file → OnOk result (F.answered (CutTo to) file) }
         ensures still { StillAwaits self.old.files.items self.new.files.items }
         ensures only { OpensNone self.old.files.items self.new.files.items }
@@ -188,7 +193,7 @@ impl<F: SystemFile + Drop> KeptFiles<F> {
         self.files[place].cut(to)
     }
 
-    /// Notes that a name is made or taken away.
+    /// Notes that a name may be made or taken away.
     pub(super) fn note_names(&mut self)
         ensures files { self.new.files.items ≡ self.old.files.items }
         ensures names { self.new.names_await ≡ true }
@@ -197,7 +202,7 @@ impl<F: SystemFile + Drop> KeptFiles<F> {
         self.names_await = true;
     }
 
-    /// Lets the files of that name go, which isn't there any more.
+    /// Lets the files of that name go, which was removed.
     pub(super) fn forget(&mut self, name: &FileName)
         ensures files { self.new.files.items ≡ without name.now self.old.files.items }
         ensures names { self.new.names_await ≡ self.old.names_await }
@@ -220,7 +225,7 @@ impl<F: SystemFile + Drop> KeptFiles<F> {
         }
     }
 
-    /// Settles each file that was made, written or cut since the last sync, and the names.
+    /// SettlesFiles each file that was made, written or cut since the last sync, and the names.
     pub(super) fn sync(&mut self) -> io::Result<()>
         ensures marks { AllZip (FallsByAnswer F.answered) self.old.files.items self.new.files.items }
         ensures names { (self.new.names_await ≡ self.old.names_await) ⊎ ((self.new.names_await ≡ false) × F.answered SettledAll self.old.directory) }

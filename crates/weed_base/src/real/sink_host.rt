@@ -1,5 +1,6 @@
 ghost use Rattle.std.specs.Prelude.{◌≡◌, None, false, refl};
 ghost use Rattle.std.proofs.lemmas.Bool.{false≢true};
+ghost use Rattle.weed_base.specs.Told.{Writes, HasWriteCause};
 
 use crate::bytes::Word;
 use crate::disk::{Disk, Host, NamesFault};
@@ -11,7 +12,7 @@ use std::alloc::Global;
 
 /// A disk that has files of any name.
 pub trait WholeDisk: Disk {
-    /// It hasn't marks alone.
+    /// It may have files of any name.
     ghost whole: { Self.MARKS_ONLY ≡ false };
 }
 
@@ -23,6 +24,7 @@ pub struct SinkHost<D, K> {
 }
 
 impl<D, K> SinkHost<D, K> {
+    /// Of this disk, and sending to this sink.
     pub fn new(disk: D, output: K) -> SinkHost<D, K>
         ensures { result ≡ record { disk = disk; output = output } }
     {
@@ -119,7 +121,11 @@ impl<D: WholeDisk, K: Sink> Disk for SinkHost<D, K> {
 }
 
 impl<D: WholeDisk, K: Sink> Host for SinkHost<D, K> {
-    fn send(&mut self, piece: &[u8]) -> Result<usize, Failed> {
+    fn send(&mut self, piece: &[u8]) -> Result<usize, Failed>
+        ensures written { Writes (K.written self.old.output) (K.written self.new.output) result piece.now }
+        ensures cause { HasWriteCause (K.faults self.old.output) (K.faults self.new.output) result piece.now }
+        ensures disk { self.new.disk ≡ self.old.disk }
+    {
         self.output.write(piece)
     }
 

@@ -123,6 +123,7 @@ pub struct ReaderSource<R> {
 pub type StandardInput = ReaderSource<Stdin>;
 
 impl<R: Read> ReaderSource<R> {
+    /// Of this reader, of which nothing was read yet.
     pub fn new(reader: R) -> ReaderSource<R>
         ensures { result ≡ record { reader = reader; reads = 0; faults = 0 } }
     {
@@ -175,6 +176,7 @@ pub type StandardOutput = WriterSink<Stdout>;
 pub type StandardError = WriterSink<Stderr>;
 
 impl<W: Write> WriterSink<W> {
+    /// Over this writer, to which nothing was written yet.
     pub fn new(writer: W) -> WriterSink<W>
         ensures { result ≡ record { writer = writer; faults = 0 } }
     {

@@ -1,8 +1,9 @@
-//! The system's files. Each body for them is a call of std: no contract can see what it did. That it was made, with
-//! what, and answered Ok, the code above has from these calls alone.
+//! The system's files: the edge where proof ends. What a call of them did no contract can see. That it was made, with
+//! what, and answered Ok, the code above knows from these two traits alone; their bodies for the real system are a
+//! call or a few of std each.
 ghost use Rattle.std.specs.Prelude.{◌≡◌, ◌≤◌, ◌<◌, ◌^◌, ℕ, List, ⊤, length, Option, None, IfOk, IfSome, OnOk, MatchOption};
 ghost use Rattle.weed_base.specs.Files.{ReadsSome};
-ghost use Rattle.weed_base.specs.System.{FileCall, Wrote, CutTo, SettledData, SettledAll, PathCall, MadeDirectory, Opened, Missed, Made, Removed, Renamed, Listed};
+ghost use Rattle.weed_base.specs.System.{FileCall, Wrote, CutTo, SettledData, SettledAll, PathCall, MadeDirectory, OpenedToSettle, Opened, Missed, Made, Removed, Renamed, Listed};
 
 use crate::file_name::FileName;
 use std::alloc::{AllocGlobal, Global};
@@ -11,7 +12,7 @@ use std::os::unix::fs::FileExt;
 use std::rt::Files;
 use std::{fs, io};
 
-/// A file of the system, or a directory.
+/// An open file of the system, or a directory. Which one it is no call changes.
 pub trait SystemFile {
     /// That call of it answered Ok.
     ghost answered: { FileCall → Self → Type 0 };
@@ -19,7 +20,7 @@ pub trait SystemFile {
     /// Its bytes, where told: of a file that is only read.
     ghost bytes: { Self → Option (List ℕ) };
 
-    /// None has 2^63 bytes.
+    /// A file has fewer than 2^63 bytes.
     ghost short: { (file : Self) → IfSome (bytes file) (λ told. length told < 2 ^ 63) };
 
     /// Its length in bytes.
@@ -32,20 +33,25 @@ pub trait SystemFile {
         ensures bound { IfOk result (λ count. count ≤ length room.new) }
         ensures read { IfOk result (λ count. IfSome (bytes self.now) (λ told. ReadsSome told at count room.new)) };
 
-    /// Writes all of the piece.
-    fn write_piece(&self, at: u64, piece: &[u8]) -> io::Result<()>
-        ensures { OnOk result (answered (Wrote at piece.now) self.now) };
+    /// Writes all of the piece, from byte `at` on.
+    fn write_piece(&mut self, at: u64, piece: &[u8]) -> io::Result<()>
+        ensures same { self.new ≡ self.old }
+        ensures written { OnOk result (answered (Wrote at piece.now) self.old) };
 
-    fn cut(&self, to: u64) -> io::Result<()>
-        ensures { OnOk result (answered (CutTo to) self.now) };
+    /// Cuts the file to that length in bytes.
+    fn cut(&mut self, to: u64) -> io::Result<()>
+        ensures same { self.new ≡ self.old }
+        ensures cut { OnOk result (answered (CutTo to) self.old) };
 
-    /// Settles the bytes, and the length.
-    fn settle_data(&self) -> io::Result<()>
-        ensures { OnOk result (answered SettledData self.now) };
+    /// SettlesFiles the bytes, and the length.
+    fn settle_data(&mut self) -> io::Result<()>
+        ensures same { self.new ≡ self.old }
+        ensures settled { OnOk result (answered SettledData self.old) };
 
-    /// Settles all of the file, and of a directory the names.
-    fn settle_all(&self) -> io::Result<()>
-        ensures { OnOk result (answered SettledAll self.now) };
+    /// SettlesFiles all of the file, and of a directory the names.
+    fn settle_all(&mut self) -> io::Result<()>
+        ensures same { self.new ≡ self.old }
+        ensures settled { OnOk result (answered SettledAll self.old) };
 }
 
 impl SystemFile for File {
@@ -63,25 +69,26 @@ impl SystemFile for File {
         self.read_at(room, at)
     }
 
-    fn write_piece(&self, at: u64, piece: &[u8]) -> io::Result<()> {
+    fn write_piece(&mut self, at: u64, piece: &[u8]) -> io::Result<()> {
         self.write_all_at(piece, at)
     }
 
-    fn cut(&self, to: u64) -> io::Result<()> {
+    fn cut(&mut self, to: u64) -> io::Result<()> {
         self.set_len(to)
     }
 
-    fn settle_data(&self) -> io::Result<()> {
+    fn settle_data(&mut self) -> io::Result<()> {
         self.sync_data()
     }
 
-    fn settle_all(&self) -> io::Result<()> {
+    fn settle_all(&mut self) -> io::Result<()> {
         self.sync_all()
     }
 }
 
 /// The system's calls by paths.
 pub trait System {
+    /// What it opens.
     type File: SystemFile + Drop;
 
     /// That call of it answered so.
@@ -92,8 +99,8 @@ pub trait System {
         ensures { OnOk result (answered (MadeDirectory path.now) self.now) };
 
     /// Opens a directory or a file to be settled.
-    fn open(&self, path: &str) -> io::Result<Self::File>
-        ensures { IfOk result (λ file. answered (Opened path.now file) self.now) };
+    fn open_to_settle(&self, path: &str) -> io::Result<Self::File>
+        ensures { IfOk result (λ file. answered (OpenedToSettle path.now file) self.now) };
 
     /// Opens a file to be read and written; `None` where nothing is there.
     fn open_existing(&self, path: &str) -> io::Result<Option<Self::File>>
@@ -107,6 +114,7 @@ pub trait System {
     fn remove_file(&self, path: &str) -> io::Result<()>
         ensures { OnOk result (answered (Removed path.now) self.now) };
 
+    /// Renames a file, which takes the place of what had the new name.
     fn rename_file(&self, from: &str, to: &str) -> io::Result<()>
         ensures { OnOk result (answered (Renamed from.now to.now) self.now) };
 
@@ -127,7 +135,7 @@ impl<R: Files<File = File> + AllocGlobal + Clone + Drop> System for R {
         }
     }
 
-    fn open(&self, path: &str) -> io::Result<File> {
+    fn open_to_settle(&self, path: &str) -> io::Result<File> {
         File::open(self, path)
     }
 

@@ -28,19 +28,19 @@ fn the_system_has_a_clock_past_2020(rt: HostRuntime) {
     assert!(rt; moment(&mut SystemClock::new(rt)) > 1_577_836_800_000_000_000);
 }
 
-type DirHost = SinkHost<DirDisk<HostRuntime>, WriterSink<Vec<u8>>>;
+type RealHost = SinkHost<DirDisk<HostRuntime>, WriterSink<Vec<u8>>>;
 
-fn detached(rt: HostRuntime) -> DirHost {
+fn detached(rt: HostRuntime) -> RealHost {
     SinkHost::new(DirDisk::new(rt), WriterSink::new(Vec::new(rt.alloc())))
 }
 
 /// A host over a directory of that name that isn't there.
-fn fresh(rt: HostRuntime, place: &str) -> Result<DirHost, Fail> {
+fn fresh(rt: HostRuntime, place: &str) -> Result<RealHost, Fail> {
     let _ = fs::remove_dir_all(&rt, place);
     attached(rt, place)
 }
 
-fn attached(rt: HostRuntime, place: &str) -> Result<DirHost, Fail> {
+fn attached(rt: HostRuntime, place: &str) -> Result<RealHost, Fail> {
     let mut host = detached(rt);
     host.attach(Word::new(rt.alloc(), place.as_bytes())?)?;
     Ok(host)

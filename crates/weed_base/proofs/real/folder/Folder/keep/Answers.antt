@@ -8,8 +8,8 @@ use Rattle.weed_base.proofs.real.folder.Folder.keep.Goals as goal
 
 pub returns-clause-marked : goal.returns-clause-marked
 returns-clause-marked g c =
-    subst (λ (name : List ℕ). OnOk c.keep.result (Awaiting name c.args.awaits c.keep.new.self.files.items)) c.copy.ensures
-    (subst (λ (kept : KeptFile g.row.F.Denot). OnOk c.keep.result (Awaiting kept.name kept.awaits c.keep.new.self.files.items)) c.new.ensures c.keep.ensures.marked)
+    subst (λ (name : List ℕ). OnOk c.keep.result (Awaiting name c.args.file c.args.awaits c.keep.new.self.files.items)) c.copy.ensures
+    (subst (λ (kept : KeptFile g.row.F.Denot). OnOk c.keep.result (Awaiting kept.name kept.file kept.awaits c.keep.new.self.files.items)) c.new.ensures c.keep.ensures.marked)
 
 pub returns-clause-keeps : goal.returns-clause-keeps
 returns-clause-keeps g c =

@@ -1,7 +1,8 @@
 use Rattle.std.proofs.Common.{◌∙◌, inl, subst}
 use Rattle.std.specs.Prelude.{IfSome}
 use Rattle.weed_base.specs.System.{CutTo}
-use Rattle.weed_base.specs.Awaiting.{IsNamedAt}
+use Rattle.weed_base.specs.Awaiting.{Awaiting, IsNamedAt}
+use Rattle.weed_base.specs.declared.real.kept.Awaits.TheVariants.{Everything}
 use Rattle.weed_base.proofs.AwaitingLemmas.{on_ok}
 use Rattle.weed_base.specs.Folder.{path_of}
 use Rattle.weed_base.proofs.FolderLemmas.{at_found, of_placed, keeps_along, keeps_by, opens_none}
@@ -10,8 +11,11 @@ use Rattle.weed_base.proofs.real.folder.Folder.make.Goals as goal
 pub returns-in-Some-clause-made : goal.returns-in-Some-clause-made
 returns-in-Some-clause-made g c =
     let named = subst (λ found. IfSome found (λ place. IsNamedAt c.args.name.now place c.place_of.new.self.kept.files.items)) c.in-Some.is c.in_ok-place.ensures.place in
-    on_ok c.cut.result (λ emptied. record { made = inl emptied; marked = c.cut.ensures.marked c.args.name.now named })
-    (of_placed (λ call. g.R.System.answered call c.args.self.now.system) (path_of c.args.self.now c.args.name.now) _ _ _ c.in-Some.place c.cut.result (g.F.SystemFile.answered (CutTo 0)) (at_found _ _ _ _ c.in-Some.is c.in_ok-place.ensures.opened) c.cut.ensures.cut)
+    on_ok c.cut.result (λ emptied. inl emptied)
+    (of_placed (λ call. g.R.System.answered call c.args.self.now.system) (path_of c.args.self.now c.args.name.now) _ _ _ c.in-Some.place c.cut.result
+    (λ file. g.F.SystemFile.answered (CutTo 0) file × Awaiting c.args.name.now file Everything c.cut.new.self.files.items)
+    (at_found _ _ _ _ c.in-Some.is c.in_ok-place.ensures.opened)
+    (λ file at. on_ok c.cut.result (λ answered. (answered, c.cut.ensures.marked c.args.name.now file named at)) (c.cut.ensures.cut file at)))
 
 pub returns-in-Some-clause-keeps : goal.returns-in-Some-clause-keeps
 returns-in-Some-clause-keeps g c = keeps_along g.R.System.answered c.place_of.ensures.keeps (keeps_by g.R.System.answered c.place_of.new.self c.cut.new.self (opens_none g.R.System.answered c.place_of.new.self c.cut.new.self c.cut.ensures.only) c.cut.ensures.still (λ was. c.cut.ensures.names ∙ was) c.cut.ensures.directory)

@@ -1,6 +1,6 @@
 use Rattle.std.proofs.Common.{ℕ, List, subst, sym, ◌∙◌, arith}
 use Rattle.std.specs.List.{All}
-use Rattle.weed_base.specs.System.{PathCall, MadeDirectory, Opened, Listed, SettledAll, path_in, directory_above}
+use Rattle.weed_base.specs.System.{PathCall, MadeDirectory, OpenedToSettle, Listed, SettledAll, path_in, directory_above}
 use Rattle.weed_base.specs.Folder.{IsSettledAt}
 use Rattle.weed_base.proofs.real.folder.Folder.open.Goals as goal
 
@@ -16,9 +16,9 @@ returns g c =
       made = subst (λ (path : List ℕ). answered (MadeDirectory path)) is c.in_ok-make_folder.ensures.made;
       above = subst (λ (path : List ℕ). settled (directory_above path)) is c.in_ok-make_folder.ensures.above;
       directory =
-          subst (λ (it : g.row.F.Denot). answered (Opened c.args.place.now it)) (sym c.new.ensures.directory)
-          (subst (λ (path : List ℕ). answered (Opened path directory)) is c.in_ok-directory.ensures);
-      names = subst (λ (it : g.row.F.Denot). g.F.SystemFile.answered SettledAll it) (sym c.new.ensures.directory) c.in_ok-settle_all.ensures;
+          subst (λ (it : g.row.F.Denot). answered (OpenedToSettle c.args.place.now it)) (sym (c.new.ensures.directory ∙ c.settle_all.ensures.same))
+          (subst (λ (path : List ℕ). answered (OpenedToSettle path directory)) is c.in_ok-directory.ensures);
+      names = subst (λ (it : g.row.F.Denot). g.F.SystemFile.answered SettledAll it) (sym (c.new.ensures.directory ∙ c.settle_all.ensures.same)) c.in_ok-settle_all.ensures.settled;
       files = (
         names,
         subst (λ (path : List ℕ). answered (Listed path names)) is c.in_ok-names.ensures,

@@ -1,11 +1,23 @@
-use Rattle.std.proofs.Common.{◌∙◌}
+use Rattle.std.proofs.Common.{◌∙◌, subst}
+use Rattle.std.specs.Prelude.{IfSome}
 use Rattle.weed_base.specs.System.{Wrote}
+use Rattle.weed_base.specs.Awaiting.{Awaiting, IsNamedAt}
 use Rattle.weed_base.specs.Folder.{path_of}
+use Rattle.weed_base.specs.declared.real.kept.Awaits.TheVariants.{Data}
+use Rattle.weed_base.proofs.AwaitingLemmas.{both_ok}
 use Rattle.weed_base.proofs.FolderLemmas.{at_found, of_placed, keeps_along, keeps_by, opens_none}
 use Rattle.weed_base.proofs.real.folder.Folder.write_at.Goals as goal
 
 pub returns-in-Some-clause-written : goal.returns-in-Some-clause-written
-returns-in-Some-clause-written g c = of_placed (λ call. g.R.System.answered call c.args.self.now.system) (path_of c.args.self.now c.args.name.now) _ _ _ c.in-Some.place c.write_at.result (g.F.SystemFile.answered (Wrote c.args.at c.args.piece.now)) (at_found _ _ _ _ c.in-Some.is c.in_ok-place.ensures.opened) c.write_at.ensures.written
+returns-in-Some-clause-written g c =
+    let named = subst (λ found. IfSome found (λ place. IsNamedAt c.args.name.now place c.place_of.new.self.kept.files.items)) c.in-Some.is c.in_ok-place.ensures.place in
+    of_placed (λ call. g.R.System.answered call c.args.self.now.system) (path_of c.args.self.now c.args.name.now) _ _ _ c.in-Some.place c.write_at.result
+    (λ file. g.F.SystemFile.answered (Wrote c.args.at c.args.piece.now) file × Awaiting c.args.name.now file Data c.write_at.new.self.files.items)
+    (at_found _ _ _ _ c.in-Some.is c.in_ok-place.ensures.opened)
+    (λ file at. both_ok _ _ _ c.write_at.result c.write_at.ensures.fits (c.write_at.ensures.written file at) (c.write_at.ensures.marked c.args.name.now file named at))
 
 pub returns-in-Some-clause-keeps : goal.returns-in-Some-clause-keeps
-returns-in-Some-clause-keeps g c = keeps_along g.R.System.answered c.place_of.ensures.keeps (keeps_by g.R.System.answered c.place_of.new.self c.write_at.new.self (opens_none g.R.System.answered c.place_of.new.self c.write_at.new.self c.write_at.ensures.only) c.write_at.ensures.still (λ was. c.write_at.ensures.names ∙ was) c.write_at.ensures.directory)
+returns-in-Some-clause-keeps g c =
+    keeps_along g.R.System.answered c.place_of.ensures.keeps
+    (keeps_by g.R.System.answered c.place_of.new.self c.write_at.new.self (opens_none g.R.System.answered c.place_of.new.self c.write_at.new.self c.write_at.ensures.only)
+    c.write_at.ensures.still (λ was. c.write_at.ensures.names ∙ was) c.write_at.ensures.directory)

@@ -6,14 +6,15 @@ use Rattle.weed_base.proofs.AwaitingLemmas.{still_set, named_set, set_any, cover
 use Rattle.weed_base.proofs.real.kept.KeptFiles.cut.Goals as goal
 
 pub returns-clause-marked : goal.returns-clause-marked
-returns-clause-marked g c = λ name named.
-    named_set (λ kept. Covers kept.awaits Everything) _ _ c.index_mut.result.now c.cut.new.self name named c.index_mut.ensures.value c.cut.ensures.name (rw c.cut.ensures.marked tt)
+returns-clause-marked g c = λ name file named at.
+    named_set (λ kept. (kept.file ≡ file) × Covers kept.awaits Everything) _ _ c.index_mut.result.now c.cut.new.self name named c.index_mut.ensures.value c.cut.ensures.name
+    (c.cut.ensures.file ∙ ap (λ kept. kept.file) c.index_mut.ensures.value ∙ at c.index_mut.result.now, (rw c.cut.ensures.marked tt))
 
 pub returns-clause-cut : goal.returns-clause-cut
 returns-clause-cut g c = λ file at. subst (λ (asked : g.row.F.Denot). OnOk c.cut.result (g.F.SystemFile.answered (CutTo c.args.to) asked)) (ap (λ kept. kept.file) c.index_mut.ensures.value ∙ at c.index_mut.result.now) c.cut.ensures.cut
 
 pub returns-clause-still : goal.returns-clause-still
-returns-clause-still g c = still_set _ _ c.index_mut.result.now c.cut.new.self c.requires c.index_mut.ensures.value c.cut.ensures.name (rw c.cut.ensures.marked (covers_all _))
+returns-clause-still g c = still_set _ _ c.index_mut.result.now c.cut.new.self c.requires c.index_mut.ensures.value c.cut.ensures.name c.cut.ensures.file (rw c.cut.ensures.marked (covers_all _))
 
 pub returns-clause-only : goal.returns-clause-only
 returns-clause-only g c = λ name file.

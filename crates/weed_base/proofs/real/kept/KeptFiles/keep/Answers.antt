@@ -14,11 +14,11 @@ returns-in_err-push-clause-only g c = λ name file found.
 
 pub returns-clause-marked : goal.returns-clause-marked
 returns-clause-marked g c =
-    rw c.in_ok-push.ensures.items (Any-push (λ kept. (kept.name ≡ c.args.opened.name) × Covers kept.awaits c.args.opened.awaits) _ c.args.opened (refl, covers_same _))
+    rw c.in_ok-push.ensures.items (Any-push (λ kept. (kept.name ≡ c.args.opened.name) × ((kept.file ≡ c.args.opened.file) × Covers kept.awaits c.args.opened.awaits)) _ c.args.opened (refl, (refl, covers_same _)))
 
 pub returns-clause-still : goal.returns-clause-still
 returns-clause-still g c =
-    rw c.in_ok-push.ensures.items (λ name mark something found. still_push c.let_idle_go.new.self.files.items c.args.opened name mark something (c.let_idle_go.ensures.still name mark something found))
+    rw c.in_ok-push.ensures.items (λ name file mark something found. still_push c.let_idle_go.new.self.files.items c.args.opened name file mark something (c.let_idle_go.ensures.still name file mark something found))
 
 pub returns-clause-only : goal.returns-clause-only
 returns-clause-only g c = λ name file found.

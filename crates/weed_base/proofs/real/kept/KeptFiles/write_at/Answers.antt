@@ -6,14 +6,15 @@ use Rattle.weed_base.proofs.AwaitingLemmas.{still_set, named_set, set_any}
 use Rattle.weed_base.proofs.real.kept.KeptFiles.write_at.Goals as goal
 
 pub returns-clause-marked : goal.returns-clause-marked
-returns-clause-marked g c = λ name named fits.
-    named_set (λ kept. Covers kept.awaits Data) _ _ c.index_mut.result.now c.write_at.new.self name named c.index_mut.ensures.value c.write_at.ensures.name (c.write_at.ensures.marked fits)
+returns-clause-marked g c = λ name file named at fits.
+    named_set (λ kept. (kept.file ≡ file) × Covers kept.awaits Data) _ _ c.index_mut.result.now c.write_at.new.self name named c.index_mut.ensures.value c.write_at.ensures.name
+    (c.write_at.ensures.file ∙ ap (λ kept. kept.file) c.index_mut.ensures.value ∙ at c.index_mut.result.now, (c.write_at.ensures.marked fits))
 
 pub returns-clause-written : goal.returns-clause-written
 returns-clause-written g c = λ file at. subst (λ (asked : g.row.F.Denot). OnOk c.write_at.result (g.F.SystemFile.answered (Wrote c.args.at c.args.piece.now) asked)) (ap (λ kept. kept.file) c.index_mut.ensures.value ∙ at c.index_mut.result.now) c.write_at.ensures.written
 
 pub returns-clause-still : goal.returns-clause-still
-returns-clause-still g c = still_set _ _ c.index_mut.result.now c.write_at.new.self c.requires c.index_mut.ensures.value c.write_at.ensures.name c.write_at.ensures.still
+returns-clause-still g c = still_set _ _ c.index_mut.result.now c.write_at.new.self c.requires c.index_mut.ensures.value c.write_at.ensures.name c.write_at.ensures.file c.write_at.ensures.still
 
 pub returns-clause-only : goal.returns-clause-only
 returns-clause-only g c = λ name file.
