@@ -87,7 +87,12 @@ mod tests {
     fn check_end(rt: &impl Abort, alloc: Global, exit: Exit, status: u8, line: &str) {
         let mut sink = MemSink::new(alloc, Vec::new(alloc)).with_most(3);
         let is_told = exit.tell(&mut sink) == Ok(()) && sink.written() == line.as_bytes();
-        assert!(rt; is_told && exit.status() == status, "{status}: {line}");
+        assert!(rt;
+            is_told && exit.status() == status,
+            "status {} and {:?}, not {status} and {line:?}",
+            exit.status(),
+            str::from_utf8(sink.written())
+        );
     }
 
     #[test]

@@ -128,8 +128,9 @@ fn check_run(rt: &impl Abort, ran: &Ran, sent: &str, log: &[u8]) -> Result<(), F
     let is_so = ran.is(sent.as_bytes(), log)?;
     assert!(rt;
         is_so,
-        "status {}, or not sent and logged: {sent:?}",
-        ran.status
+        "status {}, sent {:?}, not {sent:?}, or another log",
+        ran.status,
+        str::from_utf8(ran.sent())
     );
     Ok(())
 }
