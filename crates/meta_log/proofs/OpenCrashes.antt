@@ -1,20 +1,24 @@
 -- What a crash leaves of an opening.
-use Rattle.std.proofs.Common.{◌≡◌, inl, inr, ℕ, List, refl, sym, ◌∙◌, subst, Option, Some, Result, Ok, Err}
+use Rattle.std.proofs.Common.{◌≡◌, inl, inr, ℕ, List, refl, sym, ◌∙◌, subst, Option, Some, None, Result, Ok, Err}
 use Rattle.std.specs.Prelude.{IfSome, IfOk}
 use Rattle.std.proofs.lemmas.List.Elements.{All-nil}
-use Rattle.weed_base.specs.Files.{Files, made}
+use Rattle.weed_base.specs.Files.{Files, BothTold, made}
 use Rattle.weed_base.specs.Images.{NoMore, Only, Follows, Takes, Elapses, LeavesOnly, OnlyReads}
 use Rattle.weed_base.proofs.ImageLemmas.{leaves_both, leaves_call, leaves_weaker, reads_leaves}
 use Rattle.name_core.specs.declared.change.Record.{Record}
 use Rattle.meta_log.specs.LogText.{segment_name, on_name, NoneFrom, Suits, IsAllowed, IsLogText, HasText, IsDamage}
-use Rattle.meta_log.specs.Making.{IsPrepared, IsFreshOrEmpty}
+use Rattle.meta_log.specs.Making.{IsPrepared, IsFreshOrEmpty, LeavesOthers}
 use Rattle.meta_log.specs.Records.{AreRecords}
 use Rattle.meta_log.specs.Kept.{IsRecordLog, IsRecordDamage}
+use Rattle.meta_log.specs.Standing.{IsStanding}
 use Rattle.meta_log.specs.Images.{ComesBy, ImagesHold, ImagesKeep, IsMadeFrom, HasListOf, HasLogOf, IsOwn}
 use Rattle.meta_log.specs.declared.stem.Stem.{Stem}
 use Rattle.meta_log.specs.declared.stem.Stem.TheVariants.{Log}
+use Rattle.meta_log.specs.declared.standing.Standing.{Standing}
+use Rattle.meta_log.specs.declared.standing.Standing.TheVariants.{Empty}
 use Rattle.meta_log.proofs.Kept.{only_empty, empty_text}
 use Rattle.meta_log.proofs.Made.{segment_named, on_made}
+use Rattle.meta_log.proofs.Told.{both_unchanged}
 use Rattle.meta_log.proofs.RecordLogs.{any_allowed, as_text, from_log}
 use Rattle.meta_log.proofs.Damage.{no_damage, no_record_damage}
 
@@ -71,6 +75,24 @@ module _ {D : Type 0} (tick : D → ℕ) (images : D → Files → Type 0) (sinc
   make_leaves old synced looked new files read empty none time reads made =
       leaves_both tick since old looked new (ComesBy (IsMadeFrom stem) (images old)) (look_leaves old synced looked none time reads)
       (leaves_weaker tick since looked new (IsFreshOrEmpty stem) (ComesBy (IsMadeFrom stem) (images old)) (λ image fresh. (files, read, inr (empty, fresh))) made)
+
+-- What an opening leaves of the files: the same where it only looked at them
+pub stays_made_from : (stem : Stem) (old new : Option Files) → new ≡ old → BothTold (IsMadeFrom stem) old new
+stays_made_from stem old new same = both_unchanged (IsMadeFrom stem) old new same (λ files. inl refl)
+
+-- and where none counted a first segment, made or being made.
+made_from : (stem : Stem) (old new : Option Files) → BothTold (LeavesOthers stem) old new → IfSome old (NoneFrom stem 1) → IfSome new (IsFreshOrEmpty stem) → BothTold (IsMadeFrom stem) old new
+made_from stem None None told none fresh = tt
+made_from stem None (Some new) told none fresh = absurd told
+made_from stem (Some old) None told none fresh = absurd told
+made_from stem (Some old) (Some new) told none fresh = inr (none, fresh)
+
+pub looked_made_from : (stem : Stem) (old synced mid new : Option Files) (found : Standing) → mid ≡ synced → synced ≡ old → found ≡ Empty
+    → IfSome synced (λ files. IsStanding stem files found) → IfSome new (IsFreshOrEmpty stem) → BothTold (LeavesOthers stem) mid new → BothTold (IsMadeFrom stem) old new
+looked_made_from stem old synced mid new found same_mid same_old is stands fresh told =
+    let none = subst (λ s. IfSome synced (λ files. IsStanding stem files s)) is stands in
+    made_from stem old new (subst (λ o. BothTold (LeavesOthers stem) o new) (same_mid ∙ same_old) told)
+    (subst (λ o. IfSome o (NoneFrom stem 1)) same_old none) fresh
 
 -- What is made so has the list.
 made_list : (stem : Stem) (before image : Files) → IsMadeFrom stem before image → (payloads : List (List ℕ)) → IsLogText stem before payloads → IsLogText stem image payloads

@@ -27,7 +27,7 @@ pub struct GateLog {
 
 impl GateLog {
     ghost use Rattle.meta_log.specs.Held.{Holds, HoldsLog, HoldsText, HoldsEither, IsHeld, IsOpened, stem_of, gate_of};
-    ghost use Rattle.meta_log.specs.Images.{ImagesHold, IsEither, HasListOf};
+    ghost use Rattle.meta_log.specs.Images.{ImagesHold, IsEither, IsMadeFrom, HasListOf};
     ghost use Rattle.meta_log.specs.Faults.{IfDamaged};
     ghost use Rattle.meta_log.specs.Places.{place_behind, HoldsPlace, IsNext};
 
@@ -41,6 +41,9 @@ impl GateLog {
 
         // Whatever comes of it, the list that the disk holds stays.
         ensures kept { (payloads : List (List ℕ)) → HoldsText stem (D.files disk.old) payloads → HoldsText stem (D.files disk.new) payloads }
+
+        // Where any segment counts, nothing is changed, whatever is answered.
+        ensures files { BothTold (IsMadeFrom stem) (D.files disk.old) (D.files disk.new) }
 
         // A crash at any moment leaves a list that one before the call would have left; after `Ok` the list that was
         // read. Where each would have left a list, nothing is damaged.

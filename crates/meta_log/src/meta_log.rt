@@ -39,7 +39,7 @@ pub struct MetaLog {
 impl MetaLog {
     ghost use Rattle.meta_log.specs.Faults.{IfDamaged};
     ghost use Rattle.meta_log.specs.Kept.{front_of, IsRecordLog, HoldsRecordLog, Keeps, HoldsRecords, HoldsEitherLog, IsOpenedFrom, IsKept, IsRecordDamage, IsPast};
-    ghost use Rattle.meta_log.specs.Images.{ImagesKeep, IsEitherLog, HasLogOf, IsOwn};
+    ghost use Rattle.meta_log.specs.Images.{ImagesKeep, IsEitherLog, IsMadeFrom, HasLogOf, IsOwn};
     ghost use Rattle.meta_log.specs.Places.{place_behind};
     ghost use Rattle.meta_log.specs.RecordPlaces.{KeepsPlace, AreNext};
 
@@ -53,6 +53,9 @@ impl MetaLog {
 
         // Whatever comes of it, the records that the disk holds stay.
         ensures kept { (records : List Record) → HoldsRecordLog (D.files disk.old) records → HoldsRecordLog (D.files disk.new) records }
+
+        // Where any segment counts, nothing is changed, whatever is answered.
+        ensures files { BothTold (IsMadeFrom Log) (D.files disk.old) (D.files disk.new) }
 
         // A crash at any moment leaves the records that one before the call would have left; after `Ok` those that were
         // read. A disk of one's own isn't damaged.

@@ -40,6 +40,7 @@ pub fn open_first<D: Disk, C: Check>(
     ensures atomic { (files : Files) → D.files disk.old ≡ Some files
         → LeavesOnly D.tick D.image_since disk.old disk.new (ComesBy (IsMadeFrom stem) (D.images disk.old)) }
     ensures settled { IfOk result (λ _. Only (D.files disk.new) (D.images disk.new)) }
+    ensures files { BothTold (IsMadeFrom stem) (D.files disk.old) (D.files disk.new) }
     ensures others { BothTold (LeavesOthers stem) (D.files disk.old) (D.files disk.new) }
     ensures cause { IsCauseOf (D.faults disk.old) (D.faults disk.new) (IsErrOf result LogFault.DiskFault) }
     ensures beside { StaysBeside D.sent D.send_faults D.attachment disk.old disk.new }
@@ -74,6 +75,7 @@ pub fn open_stem<D: Disk>(alloc: Global, disk: &mut D, stem: Stem) -> Result<u64
     ensures atomic { (files : Files) → D.files disk.old ≡ Some files
         → LeavesOnly D.tick D.image_since disk.old disk.new (ComesBy (IsMadeFrom stem) (D.images disk.old)) }
     ensures settled { IfOk result (λ _. Only (D.files disk.new) (D.images disk.new)) }
+    ensures files { BothTold (IsMadeFrom stem) (D.files disk.old) (D.files disk.new) }
     ensures others { BothTold (LeavesOthers stem) (D.files disk.old) (D.files disk.new) }
     ensures cause { IsCauseOf (D.faults disk.old) (D.faults disk.new) (IsErrOf result LogFault.DiskFault) }
     ensures beside { StaysBeside D.sent D.send_faults D.attachment disk.old disk.new }

@@ -3,7 +3,7 @@ use Rattle.std.specs.Prelude.{IfSome}
 use Rattle.weed_base.proofs.ImageLemmas.{reads_both}
 use Rattle.meta_log.specs.LogText.{NoneFrom}
 use Rattle.meta_log.specs.Standing.{IsStanding}
-use Rattle.meta_log.proofs.OpenCrashes.{sync_leaves, look_leaves, make_leaves, each_settled, still_settled, if_ok_always}
+use Rattle.meta_log.proofs.OpenCrashes.{sync_leaves, look_leaves, make_leaves, each_settled, still_settled, if_ok_always, stays_made_from, looked_made_from}
 use Rattle.meta_log.proofs.Kept.{looked_at_keeps, fresh_or_empty}
 use Rattle.meta_log.proofs.opening.open_first.Goals as goal
 
@@ -17,6 +17,37 @@ pub returns-in_ok-make_first-in-Empty-clause-kept : goal.returns-in_ok-make_firs
 returns-in_ok-make_first-in-Empty-clause-kept g c =
     looked_at_keeps g.C.Check.allowed c.args.stem (g.met.C.Check.sound c.args.check.now [] c.requires.begins)
     (g.D.Disk.files c.args.disk.now) (g.D.Disk.files c.sync.new.self) (g.D.Disk.files c.find_standing.new.disk) (g.D.Disk.files c.make_first.new.disk) c.in_ok-find_standing.field-0
+    c.find_standing.ensures.files c.sync.ensures.files c.in-Empty.is c.in_ok-find_standing.ensures.found (fresh_or_empty _ c.args.stem c.in_ok-make_first-in-Empty.ensures.made) c.in_ok-make_first-in-Empty.ensures.others
+
+-- what is left of the files
+pub returns-in_err-sync-clause-files : goal.returns-in_err-sync-clause-files
+returns-in_err-sync-clause-files g c =
+    stays_made_from c.args.stem (g.D.Disk.files c.args.disk.now) (g.D.Disk.files c.sync.new.self) c.sync.ensures.files
+
+pub returns-in_err-find_standing-clause-files : goal.returns-in_err-find_standing-clause-files
+returns-in_err-find_standing-clause-files g c =
+    stays_made_from c.args.stem (g.D.Disk.files c.args.disk.now) (g.D.Disk.files c.find_standing.new.disk) (c.find_standing.ensures.files ∙ c.sync.ensures.files)
+
+pub returns-in-Gap-clause-files : goal.returns-in-Gap-clause-files
+returns-in-Gap-clause-files g c =
+    stays_made_from c.args.stem (g.D.Disk.files c.args.disk.now) (g.D.Disk.files c.find_standing.new.disk) (c.find_standing.ensures.files ∙ c.sync.ensures.files)
+
+pub returns-in-Second-clause-files : goal.returns-in-Second-clause-files
+returns-in-Second-clause-files g c =
+    stays_made_from c.args.stem (g.D.Disk.files c.args.disk.now) (g.D.Disk.files c.find_standing.new.disk) (c.find_standing.ensures.files ∙ c.sync.ensures.files)
+
+pub returns-in-First-clause-files : goal.returns-in-First-clause-files
+returns-in-First-clause-files g c =
+    stays_made_from c.args.stem (g.D.Disk.files c.args.disk.now) (g.D.Disk.files c.scan.new.disk) (c.scan.ensures.files ∙ c.find_standing.ensures.files ∙ c.sync.ensures.files)
+
+pub returns-in_err-make_first-in-Empty-clause-files : goal.returns-in_err-make_first-in-Empty-clause-files
+returns-in_err-make_first-in-Empty-clause-files g c =
+    looked_made_from c.args.stem (g.D.Disk.files c.args.disk.now) (g.D.Disk.files c.sync.new.self) (g.D.Disk.files c.find_standing.new.disk) (g.D.Disk.files c.make_first.new.disk) c.in_ok-find_standing.field-0
+    c.find_standing.ensures.files c.sync.ensures.files c.in-Empty.is c.in_ok-find_standing.ensures.found c.in_err-make_first-in-Empty.ensures.failed c.in_err-make_first-in-Empty.ensures.others
+
+pub returns-in_ok-make_first-in-Empty-clause-files : goal.returns-in_ok-make_first-in-Empty-clause-files
+returns-in_ok-make_first-in-Empty-clause-files g c =
+    looked_made_from c.args.stem (g.D.Disk.files c.args.disk.now) (g.D.Disk.files c.sync.new.self) (g.D.Disk.files c.find_standing.new.disk) (g.D.Disk.files c.make_first.new.disk) c.in_ok-find_standing.field-0
     c.find_standing.ensures.files c.sync.ensures.files c.in-Empty.is c.in_ok-find_standing.ensures.found (fresh_or_empty _ c.args.stem c.in_ok-make_first-in-Empty.ensures.made) c.in_ok-make_first-in-Empty.ensures.others
 
 -- what a crash leaves
