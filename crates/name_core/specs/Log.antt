@@ -1,5 +1,5 @@
 -- Logs: lists of records, and the namespace that each stands for.
-use Rattle.std.specs.Prelude.{ℕ, ◌≤◌, ◌<◌, List, [], ◌∷◌, flat_map, take_while, nat_le}
+use Rattle.std.specs.Prelude.{ℕ, ◌≤◌, ◌<◌, List, [], ◌∷◌, flat_map}
 use Rattle.std.specs.FinMap.{empty}
 use Rattle.name_core.specs.declared.change.Change.{Change}
 use Rattle.name_core.specs.declared.change.Record.{Record}
@@ -41,7 +41,3 @@ pub record IsSound (log : List Record) : Type 0 where
   pub times : TimesRise 0 log
   pub rootless : AreRootless (changes_of log)
   pub well_formed : KeepsWellFormed (changes_of log) empty
-
--- The records with a time of at most an offset, which stand in front
-abbrev pub log_up_to : ℕ → List Record → List Record
-log_up_to offset log = take_while (λ r. nat_le r.time offset) log
