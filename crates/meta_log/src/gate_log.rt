@@ -27,7 +27,7 @@ pub struct GateLog {
 
 impl GateLog {
     ghost use Rattle.meta_log.specs.Held.{Holds, HoldsLog, HoldsText, HoldsEither, IsHeld, IsOpened, stem_of, gate_of};
-    ghost use Rattle.meta_log.specs.Images.{ImagesHold, IsEither, IsMadeFrom, HasListOf};
+    ghost use Rattle.meta_log.specs.Images.{ComesBy, ImagesHold, IsEither, IsMadeFrom, HasListOf};
     ghost use Rattle.meta_log.specs.Faults.{IfDamaged};
     ghost use Rattle.meta_log.specs.Places.{place_behind, HoldsPlace, IsNext};
 
@@ -44,6 +44,10 @@ impl GateLog {
 
         // Where any segment counts, nothing is changed, whatever is answered.
         ensures files { BothTold (IsMadeFrom stem) (D.files disk.old) (D.files disk.new) }
+
+        // A crash at any moment leaves an image as it was, or the first segment in the making where none counted.
+        ensures steps { (files : Files) → D.files disk.old ≡ Some files
+            → LeavesOnly D.tick D.image_since disk.old disk.new (ComesBy (IsMadeFrom stem) (D.images disk.old)) }
 
         // A crash at any moment leaves a list that one before the call would have left; after `Ok` the list that was
         // read. Where each would have left a list, nothing is damaged.

@@ -39,7 +39,7 @@ pub struct MetaLog {
 impl MetaLog {
     ghost use Rattle.meta_log.specs.Faults.{IfDamaged};
     ghost use Rattle.meta_log.specs.Kept.{front_of, IsRecordLog, HoldsRecordLog, Keeps, HoldsRecords, HoldsEitherLog, IsOpenedFrom, IsKept, IsRecordDamage, IsPast};
-    ghost use Rattle.meta_log.specs.Images.{ImagesKeep, IsEitherLog, IsMadeFrom, HasLogOf, IsOwn};
+    ghost use Rattle.meta_log.specs.Images.{ComesBy, ImagesKeep, IsEitherLog, IsMadeFrom, HasLogOf, IsOwn};
     ghost use Rattle.meta_log.specs.Places.{place_behind};
     ghost use Rattle.meta_log.specs.RecordPlaces.{KeepsPlace, AreNext};
 
@@ -56,6 +56,10 @@ impl MetaLog {
 
         // Where any segment counts, nothing is changed, whatever is answered.
         ensures files { BothTold (IsMadeFrom Log) (D.files disk.old) (D.files disk.new) }
+
+        // A crash at any moment leaves an image as it was, or the first segment in the making where none counted.
+        ensures steps { (files : Files) → D.files disk.old ≡ Some files
+            → LeavesOnly D.tick D.image_since disk.old disk.new (ComesBy (IsMadeFrom Log) (D.images disk.old)) }
 
         // A crash at any moment leaves the records that one before the call would have left; after `Ok` those that were
         // read. A disk of one's own isn't damaged.
