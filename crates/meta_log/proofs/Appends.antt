@@ -114,13 +114,6 @@ ready_within (Some files) log payloads text prepared =
     let long = length_held files log payloads prepared.held in
     there_of_content files (segment_name log.stem 1) log.gate (omega (arith, long)) (omega (arith, long))
 
--- The byte behind the gate is within the file.
-pub gate_within : (told : Option Files) (log : GateLog) (payloads : List (List ℕ)) → HoldsLog told log payloads → IfSome told (IsWithin (segment_name log.stem 1) (log.gate + 1))
-gate_within None log payloads held = tt
-gate_within (Some files) log payloads held =
-    let long = length_held files log payloads held in
-    there_of_content files (segment_name log.stem 1) (log.gate + 1) long (omega (arith, long))
-
 -- Other files stay as they are.
 pub others_written : (told : Option Files) (file : List ℕ) (at : ℕ) (piece : List ℕ) → BothTold (ChangesOnly file) told (option_map (written file at piece) told)
 others_written None file at piece = tt

@@ -11,13 +11,6 @@ use Rattle.meta_log.specs.RecordPlaces.{LiesBetween, KeepsPlace, AreNext}
 use Rattle.meta_log.specs.declared.meta_log.MetaLog.{MetaLog}
 use Rattle.meta_log.specs.declared.place.Place.{Place}
 
--- The place lies behind payloads of the log.
-pub place_held : (told : Option Files) (meta : MetaLog) (place : Place) → KeepsPlace told meta place → HoldsPlace told meta.log place
-place_held None meta place keeps = tt
-place_held (Some files) meta place keeps =
-    let lies = keeps.2 in
-    (lies.before, lies.past, subst (IsHeld files meta.log) lies.split lies.kept.held, lies.place_is)
-
 -- The start lies before all records.
 pub start_lies : (files : Files) (meta : MetaLog) (place : Place) (records : List Record) → IsKept files meta records → place ≡ place_behind [] → LiesBetween files meta place [] records
 start_lies files meta place records kept begins = record { kept = kept; before = []; past = kept.payloads; split = refl; read_before = tt; read_past = kept.read; place_is = begins }

@@ -116,8 +116,3 @@ found_at told now path prefix found result same_map same_path same_result h =
     (subst (λ p. IfSome now (λ names. found ≡ get names p)) same_path
     (subst (λ f. IfSome now (λ names. f ≡ get names prefix)) same_result h))
 
--- It ends with the whole plan
-pub front_whole : (told : Option Namespace) (time : ℕ) (path : List (List ℕ)) (depth : ℕ) (changes : List Change) → PlansFront told time path depth changes → length path ≤ depth → IfSome told (λ names. directories_at names time (prefixes path) ≡ Ok changes)
-front_whole None time path depth changes front all = tt
-front_whole (Some names) time path depth changes front all =
-    front.planned ∙ ap (λ rest. with_front changes (directories_at names time (prefixes_from (take depth path) rest))) (drop_all depth path all) ∙ ap Ok (append-nil changes)

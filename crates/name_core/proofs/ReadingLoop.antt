@@ -160,12 +160,6 @@ all_seen : (seen fields : List FieldText) (left : Result (List FieldText) WireFa
 all_seen seen fields (Ok more) is = (more, refl, ok_is (seen ++ more) fields is)
 all_seen seen fields (Err fault) is = absurd cc
 
-pub no_fault_left : (text : List ℕ) (left : Result (List FieldText) WireFault) (found : Found) (fields : List FieldText) (fault : WireFault) → ReadsSo text left found → fields_of text ≡ Ok fields → left ≡ Err fault → ⊥
-no_fault_left text left found fields fault so whole is =
-    let all : (more : List FieldText) × (left ≡ Ok more) × (so.seen ++ more ≡ fields) = all_seen so.seen fields left (sym so.parts ∙ whole) in
-    let met : ◌≡◌ {A = Result (List FieldText) WireFault} (Ok all.0) (Err fault) = sym all.1 ∙ is in
-    cc
-
 pub reads_fault : (text : List ℕ) (left now : Result (List FieldText) WireFault) (found : Found) (fields : List FieldText) (field : FieldText) (event : List ℕ) (fault : WireFault) → ReadsSo text left found → fields_of text ≡ Ok fields → left ≡ with_first field now → Some event ≡ text_in 2 field → event_at event ≡ Err fault → changes_in fields ≡ Err (faults.Wire fault)
 reads_fault text left now found fields field event fault so whole first is means =
     let all : (more : List FieldText) × (now ≡ Ok more) × ((so.seen ++ field ∷ []) ++ more ≡ fields) = all_seen (so.seen ++ field ∷ []) fields now (sym (parts_more text so.seen field left now so.parts first) ∙ whole) in

@@ -128,10 +128,6 @@ Spells-attributes a fits mime =
     let kept = Spells-append _ _ _ _ (Spells-append _ _ _ _ made (Spells-bytes 7 a.mime (record { low = omega arith; high = omega arith }) mime)) (number 10 a.ttl_sec (record { low = omega arith; high = omega arith }) (omega (arith, fits.ttl_sec))) in
     Spells-append _ _ _ _ kept (Spells-bytes 14 (unwrap_or a.md5 []) (record { low = omega arith; high = omega arith }) digest)
 
--- What is read of the attributes' text
-attributes_read : (a : Attributes) → FitTypes a → length a.mime < 2 ^ 64 → (fields : List FieldText) × (fields_of (attributes_text a) ≡ Ok fields) × (attributes_in fields ≡ spelled_attributes a)
-attributes_read a fits mime = (attributes_fields a, Spells-whole _ _ (Spells-attributes a fits mime), attributes_in-fields a)
-
 -- ---- Entry
 
 entry_number_more : {before : List FieldText} {made : EntryFieldsText} (n v : ℕ) → Makes entry_fields_in before made → entry_with_number n 0 made ≡ made → Makes entry_fields_in (before ++ number_fields n v) (entry_with_number n v made)

@@ -67,13 +67,6 @@ holds_more (Some files) None old new made text both appended reads names held = 
 holds_more (Some files) (Some more) old new made text both appended reads names held =
     (held.0 ++ made ∷ [], (recorded (Some files) (Some more) old new made text both appended reads names held.0 held.1).1)
 
--- A log that was opened has records.
-pub has_records : (old new : Option Files) (log : MetaLog) → BothTold (LeavesOthers Log) old new → IsOpenedFrom old new log → (records : List Record) × HoldsRecords new log records
-has_records None None log both opened = ([], tt)
-has_records None (Some more) log both opened = absurd both
-has_records (Some files) None log both opened = absurd both
-has_records (Some files) (Some more) log both opened = (opened.text.0, opened.holds opened.text.0 opened.text.1)
-
 -- The filer that it is with its names
 filed : (files : Files) (filer : PlainFiler) (records : List Record) → HoldsRecords (Some files) filer.log records → HoldsNames (Some files) filer.log filer.names → IsFiled files filer records
 filed files filer records log names = record { log = log; names = names records log }

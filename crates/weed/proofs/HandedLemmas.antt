@@ -75,11 +75,6 @@ sends_more tick later old mid new bytes sends same more =
     pushed None mid new pieces piece first second = second ∙ ap (option_map (λ sent. sent ++ piece ∷ [])) first
     pushed (Some sent) mid new pieces piece first second = second ∙ ap (option_map (λ sent. sent ++ piece ∷ [])) first ∙ ap Some (append_assoc sent pieces (piece ∷ []))
 
--- Nothing was sent since.
-pub sends_same : (tick later : ℕ) (old mid new : Option (List Piece)) → SendsAt tick old mid → later ≡ tick → new ≡ mid → SendsAt later old new
-sends_same tick later old mid new sends still same =
-    (sends.0, same ∙ sends.1, subst (λ t. All (λ (p : Piece). p.tick ≡ t) sends.0) (sym still) sends.2)
-
 -- The bytes of a piece more
 pub bytes_grow : (old new : Option (List Piece)) (tick : ℕ) (bytes : List ℕ) → new ≡ option_map (λ (pieces : List Piece). pieces ++ record { tick = tick; bytes = bytes } ∷ []) old
     → Appends (bytes_sent old) (bytes_sent new) bytes

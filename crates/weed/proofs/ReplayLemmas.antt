@@ -31,10 +31,6 @@ changes_of_both (x ∷ old) new = ap (λ (l : List Change). x.changes ++ l) (cha
 after_both : (old new : List Record) (names : Namespace) → after_changes (changes_of (old ++ new)) names ≡ after_changes (changes_of new) (after_changes (changes_of old) names)
 after_both old new names = ap (λ (l : List Change). after_changes l names) (changes_of_both old new) ∙ after_changes-append (changes_of old) (changes_of new) names
 
--- No text takes nothing.
-pub takes_none : (names : Namespace) → Takes [] names names
-takes_none names = record { records = []; read = tt; names = refl }
-
 -- One text
 pub takes_one : (text : List ℕ) (known : Record) (old new : Namespace) → ReadsAs text known → new ≡ after_changes known.changes old → Takes (text ∷ []) old new
 takes_one text known old new reads names = record {
