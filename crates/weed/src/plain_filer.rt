@@ -112,6 +112,7 @@ impl PlainFiler {
             (Tearing D.tick D.images D.image_since disk.old disk.new records) records result }
         ensures cause { IsCauseOf (D.faults disk.old) (D.faults disk.new) (IsErrOf result MakeFault.DiskFault) }
         ensures held { ¬ (IsErrOf result MakeFault.DiskFault) → (records : List Record) × HoldsFiler (D.files disk.new) self.new records }
+        ensures others { BothTold (LeavesOthers Log) (D.files disk.old) (D.files disk.new) }
         ensures beside { StaysBeside D.sent D.send_faults D.attachment disk.old disk.new }
         ensures calls { D.tick disk.new ≤ D.tick disk.old + 4 }
     {
@@ -145,6 +146,7 @@ impl PlainFiler {
             (Tearing D.tick D.images D.image_since disk.old disk.new records) records result }
         ensures cause { IsCauseOf (D.faults disk.old) (D.faults disk.new) (IsErrOf result MakeFault.DiskFault) }
         ensures held { ¬ (IsErrOf result MakeFault.DiskFault) → (records : List Record) × HoldsFiler (D.files disk.new) self.new records }
+        ensures others { BothTold (LeavesOthers Log) (D.files disk.old) (D.files disk.new) }
         ensures beside { StaysBeside D.sent D.send_faults D.attachment disk.old disk.new }
         ensures calls { D.tick disk.new ≤ D.tick disk.old + 4 }
     {

@@ -14,6 +14,7 @@ ghost use Rattle.weed.specs.Causes.{IsCauseBeside};
 ghost use Rattle.weed.specs.Crash.{Survives};
 ghost use Rattle.weed.specs.Filer.{HoldsFiler};
 ghost use Rattle.weed.specs.Session.{State, Stands, Turns, ReadsNoMore, most_turns};
+ghost use Rattle.weed.specs.Tells.{IsSessionEnd};
 ghost use Rattle.weed.specs.Run.{Starts, Begins, EndsRun, EndsUnread, IsEarly, IfDamagedExit, IsDoneOrShort, exit_of_fault};
 
 use crate::exit::Exit;
@@ -88,6 +89,10 @@ pub fn weed<S: Source, H: Host, C: Clock>(
     ensures unreadable { (dir : List ℕ) (files : Files) → order_of words.now ≡ Ok dir → H.files world.host ≡ Some files
         → ((records : List Record) → ¬ IsRecordLog files records)
         → EndsUnread result.0 (H.sent world.host) (H.sent result.1.host) world.source result.1.source }
+
+    // Memory that was wanting and damage end a run before its session, whatever the outside tells.
+    ensures unserved { (dir : List ℕ) → order_of words.now ≡ Ok dir → ¬ IsSessionEnd result.0
+        → EndsUnread result.0 (H.sent world.host) (H.sent result.1.host) world.source result.1.source }
     ensures words { (place : ℕ) → (result.0 ≡ Exit.BadWords place) ↔ (order_of words.now ≡ Err place) }
     ensures untouched { (place : ℕ) → order_of words.now ≡ Err place → result.1 ≡ world }
     ensures damaged { IfDamagedExit
@@ -96,6 +101,9 @@ pub fn weed<S: Source, H: Host, C: Clock>(
     ensures disk { IsCauseOf (H.faults world.host) (H.faults result.1.host) (result.0 ≡ Exit.DiskFault) }
     ensures read { IsCauseOf (S.faults world.source) (S.faults result.1.source) (result.0 ≡ Exit.ReadFault) }
     ensures write { IsCauseBeside (H.send_faults world.host) (H.send_faults result.1.host) (result.0 ≡ Exit.WriteFault) (result.0 ≡ Exit.DiskFault) }
+
+    // No file is touched but the log's own.
+    ensures others { BothTold (LeavesOthers Log) (H.files world.host) (H.files result.1.host) }
 
     // The run's first call of the disk turns the host to the directory of the words, and none turns it elsewhere;
     // or the run ends before it reads or sends anything.
@@ -129,6 +137,7 @@ fn filer_once<S: Source, H: Host, C: Clock>(
         × ReadsNoMore S.left S.reads world.old.source world.new.source first path }
     ensures unreadable { (files : Files) → H.files world.old.host ≡ Some files → ((records : List Record) → ¬ IsRecordLog files records)
         → EndsUnread result (H.sent world.old.host) (H.sent world.new.host) world.old.source world.new.source }
+    ensures unserved { ¬ IsSessionEnd result → EndsUnread result (H.sent world.old.host) (H.sent world.new.host) world.old.source world.new.source }
     ensures good_words { (place : ℕ) → result ≡ Exit.BadWords place → ⊥ }
     ensures damaged { IfDamagedExit
         (λ file at. IfSome (H.files world.old.host) (λ files. IsRecordDamage files file at) × (H.files world.new.host ≡ H.files world.old.host)) result }
@@ -136,6 +145,7 @@ fn filer_once<S: Source, H: Host, C: Clock>(
     ensures disk { IsCauseOf (H.faults world.old.host) (H.faults world.new.host) (result ≡ Exit.DiskFault) }
     ensures read { IsCauseOf (S.faults world.old.source) (S.faults world.new.source) (result ≡ Exit.ReadFault) }
     ensures write { IsCauseBeside (H.send_faults world.old.host) (H.send_faults world.new.host) (result ≡ Exit.WriteFault) (result ≡ Exit.DiskFault) }
+    ensures others { BothTold (LeavesOthers Log) (H.files world.old.host) (H.files world.new.host) }
     ensures attached { (H.attachment world.new.host ≡ attached_to dir.now (H.tick world.old.host) (H.attachment world.old.host))
         ⊎ ((H.attachment world.new.host ≡ H.attachment world.old.host)
         × EndsUnread result (H.sent world.old.host) (H.sent world.new.host) world.old.source world.new.source) }

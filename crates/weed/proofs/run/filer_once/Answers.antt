@@ -72,3 +72,9 @@ returns-in-Err-clause-unreadable g c files told none = record { early = c.in-Err
 
 pub returns-in-Ok-clause-own : goal.returns-in-Ok-clause-own
 returns-in-Ok-clause-own g c files told own = session_is_sound _ c.run.result c.run.ensures.kind
+
+pub returns-in-Ok-clause-unserved : goal.returns-in-Ok-clause-unserved
+returns-in-Ok-clause-unserved g c unserved = absurd (unserved c.run.ensures.kind)
+
+pub returns-in-Err-clause-unserved : goal.returns-in-Err-clause-unserved
+returns-in-Err-clause-unserved g c unserved = record { early = c.in-Err.ensures.early; unsent = c.in-Err.ensures.sent.0; unread = refl {a = c.args.world.now.source} }

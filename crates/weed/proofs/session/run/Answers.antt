@@ -8,6 +8,7 @@ use Rattle.weed.specs.declared.exit.Exit.TheVariants.{DiskFault, ReadFault, Writ
 use Rattle.weed.proofs.SessionLemmas.{rests, open_is_no_end}
 use Rattle.weed.specs.Tells.{Tells}
 use Rattle.weed.proofs.InboxLemmas.{needs_nothing}
+use Rattle.weed.proofs.OthersLemmas.{others_stay, others_twice}
 use Rattle.weed.proofs.CrashLemmas.{keeping_begins, keeping_more, last_of-push, steps-push, reads-push, ends_after, spent_ends}
 use Rattle.weed.proofs.session.run.Goals as goal
 
@@ -20,6 +21,7 @@ loop-turn-init g c =
       faults = refl;
       read_faults = refl;
       send_faults = refl;
+      others = others_stay (disk.files c.args.world.now.host);
       attachment = refl;
     }
 
@@ -46,6 +48,7 @@ loop-turn-preserved g c =
       faults = c.in-Open.ensures.disk.quiet (open_is_no_end DiskFault) ∙ c.loop-turn.invariant.faults;
       read_faults = c.in-Open.ensures.read.quiet (open_is_no_end ReadFault) ∙ c.loop-turn.invariant.read_faults;
       send_faults = c.in-Open.ensures.write.quiet (open_is_no_end WriteFault) (open_is_no_end DiskFault) ∙ c.loop-turn.invariant.send_faults;
+      others = others_twice (disk.files start) (disk.files mid) (disk.files now) c.loop-turn.invariant.others c.in-Open.ensures.others;
       attachment = c.in-Open.ensures.attachment ∙ c.loop-turn.invariant.attachment;
     }
 
