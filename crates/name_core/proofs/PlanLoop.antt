@@ -115,4 +115,3 @@ found_at told now path prefix found result same_map same_path same_result h =
     subst (λ t. IfSome t (λ names. found ≡ get names path)) same_map
     (subst (λ p. IfSome now (λ names. found ≡ get names p)) same_path
     (subst (λ f. IfSome now (λ names. f ≡ get names prefix)) same_result h))
-

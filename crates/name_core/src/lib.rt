@@ -20,8 +20,8 @@ pub use change::{Change, Record, RecordChanges};
 pub use command::{Command, PlanFault, Refusal};
 pub use entry::{Attributes, Entry, Kind};
 pub use laws::{
-    plans_keep_logs_sound, plans_keep_names_well_formed, plans_keep_times_rising,
-    written_records_are_read,
+    made_directories_are_there, plans_keep_logs_sound, plans_keep_names_well_formed,
+    plans_keep_times_rising, written_records_are_read,
 };
 pub use names::{KeeperFault, Names};
 pub use planning::plan;
