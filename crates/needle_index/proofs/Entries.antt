@@ -34,6 +34,8 @@ chunks-push (suc n) text last whole full =
     ∙ ap (λ rest. take 16 text ∷ first_chunks 16 (suc n) rest) (drop-append-le 16 text last (omega arith))
     ∙ ap (λ rest. take 16 text ∷ rest) (chunks-push n (drop 16 text) last (omega (arith, length-drop 16 text)) full)
 
+pub spots_of-push : (text : List ℕ) (entry : Entry) → length text % 16 ≡ 0 → entry.key < 2 ^ 64 → entry.offset < 2 ^ 32 → entry.size < 2 ^ 32
+    → spots_of (text ++ entry_text entry) ≡ entered (spots_of text) entry
 unfolding spots_of
 spots_of-push text entry whole key offset size =
     let more : length (text ++ entry_text entry) / 16 ≡ suc (length text / 16) = omega (arith, length-append text (entry_text entry)) in
