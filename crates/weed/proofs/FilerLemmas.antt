@@ -16,7 +16,6 @@ use Rattle.meta_log.specs.declared.stem.Stem.TheVariants.{Log}
 use Rattle.weed.specs.NameTable.{names_of}
 use Rattle.weed.specs.Filer.{IsFiled, IsFiledFrom, HoldsFiler, Makes}
 use Rattle.weed.specs.Replay.{HoldsNames}
-use Rattle.meta_log.specs.declared.meta_log.MetaLog.{MetaLog}
 use Rattle.weed.specs.declared.plain_filer.PlainFiler.{PlainFiler}
 use Rattle.weed.specs.declared.plain_filer.MakeFault.{MakeFault}
 use Rattle.weed.specs.declared.plain_filer.MakeFault.TheVariants as fault

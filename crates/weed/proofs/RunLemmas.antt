@@ -3,6 +3,9 @@ use Rattle.std.proofs.Common.{◌≡◌, ◌≢◌, ◌⊎◌, ℕ, List, [], le
 use Rattle.std.specs.Prelude.{IfSome, IsSomeAnd}
 use Rattle.weed_base.specs.Files.{Files, BothTold}
 use Rattle.name_core.specs.declared.change.Record.{Record}
+use Rattle.meta_log.specs.Images.{IsMadeFrom}
+use Rattle.meta_log.specs.LogText.{NoneFrom}
+use Rattle.meta_log.specs.declared.stem.Stem.TheVariants.{Log}
 use Rattle.meta_log.specs.Kept.{IsRecordLog, HoldsRecordLog, IsRecordDamage}
 use Rattle.meta_log.proofs.Damage.{no_record_damage}
 use Rattle.weed.specs.Inbox.{left_of}
@@ -30,6 +33,19 @@ pub found_log : (old new : Option Files) (session : Session) (files : Files) →
 found_log None new session files told begins = cc
 found_log (Some before) new session files told begins =
     subst (λ (disk : Files). (records : List Record) × IsRecordLog disk records) (some_same before files told) begins.filed.found
+
+-- Files of which no segment counts are a log of no records.
+empty_log : (files : Files) → NoneFrom Log 1 files → IsRecordLog files []
+empty_log files none = record { payloads = []; text = inl (none, refl); read = tt; times = tt }
+
+-- Files that are no log of records stay as they are, since a segment of theirs counts.
+pub no_log_stays : (old new : Option Files) (files : Files) → old ≡ Some files → ((records : List Record) → ¬ IsRecordLog files records)
+    → BothTold (IsMadeFrom Log) old new → new ≡ old
+no_log_stays None new files told no_log made = cc
+no_log_stays (Some before) None files told no_log made = absurd made
+no_log_stays (Some before) (Some after) files told no_log (inl same) = ap Some same
+no_log_stays (Some before) (Some after) files told no_log (inr fresh) =
+    absurd (no_log [] (empty_log files (subst (NoneFrom Log 1) (some_same before files told) fresh.0)))
 
 -- A session that has begun tells the state that the run started from.
 pub begun_tells : (left sent sent' : Option (List ℕ)) (old new : Option Files) (clock : Option (List ℕ)) (session : Session) (first : State)

@@ -59,7 +59,7 @@ impl PlainFiler {
     ghost use Rattle.meta_log.specs.Making.{LeavesOthers};
     ghost use Rattle.meta_log.specs.declared.stem.Stem.TheVariants.{Log};
     ghost use Rattle.weed_base.specs.Images.{LeavesOnly};
-    ghost use Rattle.meta_log.specs.Images.{HasLogOf, ImagesKeep, IsOwn};
+    ghost use Rattle.meta_log.specs.Images.{HasLogOf, ImagesKeep, IsMadeFrom, IsOwn};
     ghost use Rattle.meta_log.specs.Kept.{front_of, HoldsRecordLog, IsRecordDamage, IsRecordLog};
     ghost use Rattle.meta_log.specs.Records.{ReadsAs};
     ghost use Rattle.weed.specs.Filer.{IsFiled, IsFiledFrom, HoldsFiler, Makes, MakesImages, log_of};
@@ -76,6 +76,9 @@ impl PlainFiler {
 
         // Whatever comes of it, the records that the disk holds stay.
         ensures kept { (records : List Record) → HoldsRecordLog (D.files disk.old) records → HoldsRecordLog (D.files disk.new) records }
+
+        // Where any segment counts, nothing is changed, whatever is answered.
+        ensures made { BothTold (IsMadeFrom Log) (D.files disk.old) (D.files disk.new) }
         ensures others { BothTold (LeavesOthers Log) (D.files disk.old) (D.files disk.new) }
 
         // A crash at any moment leaves the records of an image that was there before; after `Ok` those that

@@ -5,7 +5,7 @@ ghost use Rattle.weed_base.specs.Sent.{bytes_sent, SendsNothing};
 ghost use Rattle.weed_base.specs.Files.{Files, BothTold};
 ghost use Rattle.weed_base.specs.Images.{LeavesOnly, OnlyReads};
 ghost use Rattle.name_core.specs.declared.change.Record.{Record};
-ghost use Rattle.meta_log.specs.Images.{HasLogOf, ImagesKeep, IsOwn};
+ghost use Rattle.meta_log.specs.Images.{HasLogOf, ImagesKeep, IsMadeFrom, IsOwn};
 ghost use Rattle.meta_log.specs.Kept.{HoldsRecordLog, IsRecordDamage, IsRecordLog};
 ghost use Rattle.meta_log.specs.Making.{LeavesOthers};
 ghost use Rattle.meta_log.specs.declared.stem.Stem.TheVariants.{Log};
@@ -85,10 +85,11 @@ pub fn weed<S: Source, H: Host, C: Clock>(
         → ¬ Rose (H.send_faults world.host) (H.send_faults result.1.host) → ((path : List State) → Turns first path → length path ≢ most_turns)
         → IsDoneOrShort result.0 }
 
-    // Over files that are no log the run ends before it reads or sends anything.
+    // Over files that are no log the run ends before it reads or sends anything, and leaves them as they are.
     ensures unreadable { (dir : List ℕ) (files : Files) → order_of words.now ≡ Ok dir → H.files world.host ≡ Some files
         → ((records : List Record) → ¬ IsRecordLog files records)
-        → EndsUnread result.0 (H.sent world.host) (H.sent result.1.host) world.source result.1.source }
+        → EndsUnread result.0 (H.sent world.host) (H.sent result.1.host) world.source result.1.source
+        × (H.files result.1.host ≡ H.files world.host) }
 
     // Memory that was wanting and damage end a run before its session, whatever the outside tells.
     ensures unserved { (dir : List ℕ) → order_of words.now ≡ Ok dir → ¬ IsSessionEnd result.0
@@ -136,7 +137,8 @@ fn filer_once<S: Source, H: Host, C: Clock>(
         IsOwn (H.images world.old.host) → Survives H.tick H.images H.image_since H.sent world.old.host world.new.host result first path last of_run)
         × ReadsNoMore S.left S.reads world.old.source world.new.source first path }
     ensures unreadable { (files : Files) → H.files world.old.host ≡ Some files → ((records : List Record) → ¬ IsRecordLog files records)
-        → EndsUnread result (H.sent world.old.host) (H.sent world.new.host) world.old.source world.new.source }
+        → EndsUnread result (H.sent world.old.host) (H.sent world.new.host) world.old.source world.new.source
+        × (H.files world.new.host ≡ H.files world.old.host) }
     ensures unserved { ¬ IsSessionEnd result → EndsUnread result (H.sent world.old.host) (H.sent world.new.host) world.old.source world.new.source }
     ensures good_words { (place : ℕ) → result ≡ Exit.BadWords place → ⊥ }
     ensures damaged { IfDamagedExit
@@ -164,6 +166,7 @@ fn begin<H: Host>(alloc: Global, dir: &[u8], host: &mut H) -> Result<Session, Ex
     ensures damaged { IfErr result (IfDamagedExit
         (λ file at. IfSome (H.files host.old) (λ files. IsRecordDamage files file at) × (H.files host.new ≡ H.files host.old))) }
     ensures kept { (records : List Record) → HoldsRecordLog (H.files host.old) records → HoldsRecordLog (H.files host.new) records }
+    ensures made { BothTold (IsMadeFrom Log) (H.files host.old) (H.files host.new) }
     ensures others { BothTold (LeavesOthers Log) (H.files host.old) (H.files host.new) }
     ensures atomic { (files : Files) → H.files host.old ≡ Some files → LeavesOnly H.tick H.image_since host.old host.new (HasLogOf (H.images host.old)) }
     ensures settled { IfOk result (λ _. (files : Files) (records : List Record) → H.files host.old ≡ Some files

@@ -4,7 +4,7 @@ use Rattle.weed_base.specs.Sent.{bytes_sent}
 use Rattle.meta_log.specs.Making.{LeavesOthers}
 use Rattle.meta_log.specs.declared.stem.Stem.TheVariants.{Log}
 use Rattle.weed.specs.Tells.{Ends}
-use Rattle.weed.proofs.RunLemmas.{found_log, begun_tells, early_stands, session_is_sound, session_has_words}
+use Rattle.weed.proofs.RunLemmas.{found_log, no_log_stays, begun_tells, early_stands, session_is_sound, session_has_words}
 use Rattle.weed.proofs.SessionLemmas.{same_rests}
 use Rattle.weed.proofs.CrashLemmas.{reads_nothing}
 use Rattle.weed.proofs.SurvivalLemmas.{log_told, own_is_sound, survives_early, survives_session}
@@ -68,7 +68,11 @@ returns-in-Ok-clause-unreadable g c files told none =
     let found = found_log (g.H.Disk.files c.args.world.now.host) (g.H.Disk.files c.begin.new.host) c.in-Ok.session files told c.in-Ok.ensures.began in absurd (none found.0 found.1)
 
 pub returns-in-Err-clause-unreadable : goal.returns-in-Err-clause-unreadable
-returns-in-Err-clause-unreadable g c files told none = record { early = c.in-Err.ensures.early; unsent = c.in-Err.ensures.sent.0; unread = refl }
+returns-in-Err-clause-unreadable g c files told none =
+    let disk = g.H.Disk in (
+      record { early = c.in-Err.ensures.early; unsent = c.in-Err.ensures.sent.0; unread = refl },
+      no_log_stays (disk.files c.args.world.now.host) (disk.files c.begin.new.host) files told none c.in-Err.ensures.made,
+    )
 
 pub returns-in-Ok-clause-own : goal.returns-in-Ok-clause-own
 returns-in-Ok-clause-own g c files told own = session_is_sound _ c.run.result c.run.ensures.kind
