@@ -9,9 +9,8 @@ pub data FileCall : Type 0 where
   SettledData : FileCall
   SettledAll : FileCall
 
--- A call by paths, with what it gave: it made a directory, opened what is there to settle
--- it, opened or made a file, found nothing there, removed or
--- renamed a file, or listed the names in a directory.
+-- A call by paths, with what it gave: it made a directory, opened what is there to settle it, opened or made a file,
+-- found nothing there, removed or renamed a file, or listed the names in a directory.
 pub data PathCall (F : Type 0) : Type 0 where
   MadeDirectory : List ℕ → PathCall F
   OpenedToSettle : List ℕ → F → PathCall F

@@ -1,4 +1,4 @@
-ghost use Rattle.std.specs.Prelude.{◌≡◌, ◌≤◌, ◌<◌, ◌+◌, ◌-◌, ◌^◌, ◌⊎◌, ◌↔◌, List, length, None, true, false, IsErr, IsErrOf, IfOk, IfSome, OnOk, OnErr, IsSomeAnd, MatchOption, refl};
+ghost use Rattle.std.specs.Prelude.{◌≡◌, ◌≤◌, ◌<◌, ◌+◌, ◌-◌, ◌^◌, ◌⊎◌, ◌↔◌, length, None, true, false, IsErr, IsErrOf, IfOk, IfSome, OnOk, OnErr, IsSomeAnd, MatchOption, refl};
 ghost use Rattle.std.proofs.lemmas.Bool.{false≢true};
 ghost use Rattle.std.proofs.lemmas.Option.{none-some};
 ghost use Rattle.weed_base.specs.Attachment.{Attaches, unattached};
@@ -13,7 +13,7 @@ ghost use Rattle.weed_base.specs.declared.real.kept.Awaits.TheVariants.{Data, Ev
 
 use crate::attachment::Attachment;
 use crate::bytes::Word;
-use crate::disk::{Disk, NamesFault, ends_in_file};
+use crate::disk::{Disk, NamesFault};
 use crate::faults::Faults;
 use crate::file_name::FileName;
 use crate::items::Items;
@@ -95,7 +95,7 @@ impl<F: SystemFile + Drop, R: System<File = F> + AllocGlobal + Clone + Drop> Dir
         self.broken = true;
     }
 
-    /// SettlesFiles the directory that is attached, and opens another.
+    /// Settles the directory that is attached, and opens another.
     fn open(&mut self, place: &[u8]) -> io::Result<Folder<R, F>>
         ensures broken { IsBrokenOff self.old → IsErr result }
         ensures opened { IfOk result (IsOpenedFolder R.answered F.answered place.now) }

@@ -1,5 +1,5 @@
 //! A directory of the system, and its open files. Nothing here counts faults.
-ghost use Rattle.std.specs.Prelude.{◌≡◌, ◌≢◌, ◌≤◌, ◌<◌, ◌+◌, ◌^◌, ◌⊎◌, [], length, take, drop, true, false, string_bytes, IfOk, IfSome, OnOk, OnErr, MatchOption};
+ghost use Rattle.std.specs.Prelude.{◌≡◌, ◌≤◌, ◌<◌, ◌+◌, ◌^◌, ◌⊎◌, length, take, drop, true, string_bytes, IfOk, IfSome, OnOk, OnErr, MatchOption};
 ghost use Rattle.std.specs.List.{All};
 ghost use Rattle.weed_base.specs.Files.{ReadsAt, ReadsSome};
 ghost use Rattle.weed_base.specs.System.{Wrote, CutTo, MadeDirectory, Opened, Missed, Made, path_in, directory_above};
@@ -68,7 +68,7 @@ fn path_in(alloc: Global, path: &str, name: &FileName) -> io::Result<String>
     Ok(format!(in alloc; "{path}/{name}")?)
 }
 
-/// SettlesFiles what lies at a path.
+/// Settles what lies at a path.
 fn settle_at<F: SystemFile + Drop, R: System<File = F>>(system: &R, path: &str) -> io::Result<()>
     ensures { OnOk result (IsSettledAt (λ call. R.answered call system.now) F.answered path.now) }
 {
@@ -85,7 +85,7 @@ fn make_folder<F: SystemFile + Drop, R: System<File = F>>(system: &R, place: &st
     settle_at(system, directory_above(place))
 }
 
-/// SettlesFiles each file of these names in the directory.
+/// Settles each file of these names in the directory.
 fn settle_each<F: SystemFile + Drop, R: System<File = F> + AllocGlobal>(
     system: &R,
     place: &str,
@@ -279,7 +279,7 @@ impl<F: SystemFile + Drop, R: System<File = F> + AllocGlobal + Drop> Folder<R, F
         Ok(())
     }
 
-    /// SettlesFiles each file that was made, written or cut since the last sync, and the names.
+    /// Settles each file that was made, written or cut since the last sync, and the names.
     pub(crate) fn sync(&mut self) -> io::Result<()>
         ensures falls { SettlesFiles F.answered self.old self.new }
         ensures settled { OnOk result (IsSettledWhole self.new) }

@@ -1,5 +1,5 @@
 //! The open files of a directory, and what they await of the next sync.
-ghost use Rattle.std.specs.Prelude.{◌≡◌, ◌≢◌, ◌≤◌, ◌<◌, ◌+◌, ◌^◌, ◌⊎◌, ℕ, List, [], length, slice_index_or, true, false, IfOk, OnOk};
+ghost use Rattle.std.specs.Prelude.{◌≡◌, ◌<◌, ◌+◌, ◌^◌, ◌⊎◌, ℕ, List, [], length, true, false, IfOk, OnOk};
 ghost use Rattle.std.specs.List.{All, AllZip, position};
 ghost use Rattle.std.specs.Str.{bytes_eq};
 ghost use Rattle.weed_base.specs.System.{Wrote, CutTo, SettledAll};
@@ -44,7 +44,7 @@ impl<F: SystemFile + Drop> KeptFile<F> {
         KeptFile { name, file, awaits }
     }
 
-    /// SettlesFiles what it awaits.
+    /// Settles what it awaits.
     fn sync(&mut self) -> io::Result<()>
         ensures mark { FallsByAnswer F.answered self.old self.new }
         ensures settled { OnOk result (AwaitsNothing self.new) }
@@ -88,7 +88,7 @@ impl<F: SystemFile + Drop> KeptFile<F> {
     }
 }
 
-/// SettlesFiles what each of them awaits, up to the first that fails.
+/// Settles what each of them awaits, up to the first that fails.
 fn sync_each<F: SystemFile + Drop>(files: &mut [KeptFile<F>]) -> io::Result<()>
     ensures marks { AllZip (FallsByAnswer F.answered) files.old files.new }
     ensures settled { OnOk result (All AwaitsNothing files.new) }
@@ -225,7 +225,7 @@ impl<F: SystemFile + Drop> KeptFiles<F> {
         }
     }
 
-    /// SettlesFiles each file that was made, written or cut since the last sync, and the names.
+    /// Settles each file that was made, written or cut since the last sync, and the names.
     pub(super) fn sync(&mut self) -> io::Result<()>
         ensures marks { AllZip (FallsByAnswer F.answered) self.old.files.items self.new.files.items }
         ensures names { (self.new.names_await ≡ self.old.names_await) ⊎ ((self.new.names_await ≡ false) × F.answered SettledAll self.old.directory) }

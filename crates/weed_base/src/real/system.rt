@@ -43,12 +43,12 @@ pub trait SystemFile {
         ensures same { self.new ≡ self.old }
         ensures cut { OnOk result (answered (CutTo to) self.old) };
 
-    /// SettlesFiles the bytes, and the length.
+    /// Settles the bytes, and the length.
     fn settle_data(&mut self) -> io::Result<()>
         ensures same { self.new ≡ self.old }
         ensures settled { OnOk result (answered SettledData self.old) };
 
-    /// SettlesFiles all of the file, and of a directory the names.
+    /// Settles all of the file, and of a directory the names.
     fn settle_all(&mut self) -> io::Result<()>
         ensures same { self.new ≡ self.old }
         ensures settled { OnOk result (answered SettledAll self.old) };
