@@ -27,7 +27,7 @@ impl Model for FidText {
 }
 
 impl FidText {
-    /// Takes no memory.
+    /// Its bytes. Takes no memory.
     pub fn as_slice(&self) -> &[u8]
         ensures short { length result.now ≤ 35 }
         ensures text { result.now ≡ self.now }
@@ -35,6 +35,7 @@ impl FidText {
         &self.bytes[..self.length]
     }
 
+    /// Of no byte.
     pub(crate) fn empty() -> FidText
         ensures { result ≡ [] }
     {
@@ -44,6 +45,7 @@ impl FidText {
         }
     }
 
+    /// Adds a piece.
     pub(crate) fn append(&mut self, piece: &[u8])
         requires { length self.old + length piece.now ≤ 35 }
         ensures { self.new ≡ self.old ++ piece.now }

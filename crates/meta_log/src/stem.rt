@@ -12,7 +12,7 @@ pub enum Stem {
     Marks,
 }
 
-/// The first segment.
+/// The name of the first segment's file.
 pub fn first_segment(stem: Stem) -> FileName
     ensures { result ≡ segment_name stem 1 }
 {
@@ -22,7 +22,7 @@ pub fn first_segment(stem: Stem) -> FileName
     }
 }
 
-/// The second segment.
+/// The name of the second segment's file.
 pub fn second_segment(stem: Stem) -> FileName
     ensures { result ≡ segment_name stem 2 }
 {
@@ -32,7 +32,7 @@ pub fn second_segment(stem: Stem) -> FileName
     }
 }
 
-/// The file by which the first segment counts.
+/// The name of the file by which the first segment counts.
 pub fn first_on(stem: Stem) -> FileName
     ensures { result ≡ on_name stem 1 }
 {

@@ -4,6 +4,7 @@ use Rattle.name_core.specs.declared.entry.Entry.{Entry}
 use Rattle.name_core.specs.declared.entry.Kind.{Kind}
 use Rattle.name_core.specs.declared.entry.Kind.TheVariants.{Directory, File}
 
+-- The kind is that of a file.
 abbrev pub is_file_kind : Kind → Bool
 is_file_kind Directory = false
 is_file_kind File = true

@@ -9,24 +9,24 @@ use Rattle.name_core.specs.Namespace.{Namespace, AreRootless, after_changes, Kee
 abbrev pub end_of_time : ℕ
 end_of_time = 9223372036854775807
 
--- After all changes of a record
+-- After all changes of a record.
 abbrev pub after_record : Record → Namespace → Namespace
 after_record r names = after_changes r.changes names
 
--- The changes of a log, in order
+-- The changes of a log, in order.
 abbrev pub changes_of : List Record → List Change
 changes_of log = flat_map (λ r. r.changes) log
 
--- The namespace of a log: its changes in order, from the empty map on
+-- The namespace of a log: its changes in order, from the empty map on.
 abbrev pub fold : List Record → Namespace
 fold log = after_changes (changes_of log) empty
 
--- The last time of a log, or the one before it where it is empty
+-- The last time of a log, or the one before it where it is empty.
 abbrev pub last_time_from : ℕ → List Record → ℕ
 last_time_from before [] = before
 last_time_from before (r ∷ log) = last_time_from r.time log
 
--- The time of the last record, or 0
+-- The time of the last record, or 0.
 abbrev pub last_time : List Record → ℕ
 last_time log = last_time_from 0 log
 

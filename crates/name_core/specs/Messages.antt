@@ -5,7 +5,7 @@ use Rattle.std.specs.List.{last_or}
 use Rattle.proto_wire.specs.Field.{FieldText}
 use Rattle.proto_wire.specs.Taken.{text_in, last_number, last_text, last_message}
 
--- FuseAttributes
+-- FuseAttributes.
 pub record AttributesText : Type 0 where
   pub file_size : ℕ
   pub mtime : ℕ
@@ -17,6 +17,7 @@ pub record AttributesText : Type 0 where
   pub ttl_sec : ℕ
   pub md5 : List ℕ
 
+-- What these fields give as attributes.
 abbrev pub attributes_in : List FieldText → AttributesText
 attributes_in fields = record {
   file_size = last_number 1 fields;
@@ -37,6 +38,7 @@ pub record EntryFieldsText : Type 0 where
   pub has_chunks : Bool
   pub attributes : List ℕ
 
+-- What these fields give as an entry.
 abbrev pub entry_fields_in : List FieldText → EntryFieldsText
 entry_fields_in fields = record {
   name = last_text 1 fields;
@@ -57,6 +59,7 @@ pub record NotificationText : Type 0 where
   pub new_parent : List ℕ
   pub old_is_last : Bool
 
+-- What these fields give as a notification.
 abbrev pub notification_in : List FieldText → NotificationText
 notification_in fields = record {
   old_entry = last_message 1 fields;
@@ -70,5 +73,6 @@ pub record EventFieldsText : Type 0 where
   pub directory : List ℕ
   pub notification : List ℕ
 
+-- What these fields give as an event.
 abbrev pub event_fields_in : List FieldText → EventFieldsText
 event_fields_in fields = record { directory = last_text 1 fields; notification = last_text 2 fields }

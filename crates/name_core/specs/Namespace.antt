@@ -9,10 +9,11 @@ use Rattle.name_core.specs.declared.entry.Kind.TheVariants.{Directory}
 use Rattle.name_core.specs.declared.change.Change.{Change}
 use Rattle.name_core.specs.declared.change.Change.TheVariants.{Put, Drop}
 
+-- From paths to entries.
 abbrev pub Namespace : Type 0
 Namespace = FinMap path_cmp Entry
 
--- The path that a change names
+-- The path that a change names.
 abbrev pub path_of : Change → List (List ℕ)
 path_of (Put path entry) = path
 path_of (Drop path) = path
@@ -30,7 +31,7 @@ abbrev pub step : Change → Namespace → Namespace
 step (Put path entry) names = insert names path entry
 step (Drop path) names = retain_keys names (λ other. not (is_within path other))
 
--- After changes, one by one
+-- After changes, one by one.
 abbrev pub after_changes : List Change → Namespace → Namespace
 after_changes [] names = names
 after_changes (change ∷ later) names = after_changes later (step change names)

@@ -16,12 +16,12 @@ use Rattle.name_core.specs.Entry.{is_file_kind, new_directory}
 use Rattle.name_core.specs.Namespace.{Namespace}
 use Rattle.name_core.specs.Log.{end_of_time}
 
--- A path with each front of further parts behind it, the shortest first
+-- A path with each front of further parts behind it, the shortest first.
 abbrev pub prefixes_from : List (List ℕ) → List (List ℕ) → List (List (List ℕ))
 prefixes_from top [] = []
 prefixes_from top (part ∷ parts) = (top ++ part ∷ []) ∷ prefixes_from (top ++ part ∷ []) parts
 
--- Each prefix of a path but the root, itself included, the shortest first
+-- Each prefix of a path but the root, itself included, the shortest first.
 abbrev pub prefixes : List (List ℕ) → List (List (List ℕ))
 prefixes path = prefixes_from [] path
 
@@ -30,35 +30,36 @@ abbrev pub is_file : Option Entry → Bool
 is_file None = false
 is_file (Some entry) = is_file_kind entry.kind
 
--- The first of the paths that is a file
+-- The first of the paths that is a file.
 abbrev pub first_file : Namespace → List (List (List ℕ)) → Option (List (List ℕ))
 first_file names paths = find (λ path. is_file (get names path)) paths
 
--- Those of the paths at which nothing stands
+-- Those of the paths at which nothing stands.
 abbrev pub missing : Namespace → List (List (List ℕ)) → List (List (List ℕ))
 missing names paths = filter (λ path. is_none (get names path)) paths
 
--- The changes, unless a file is in their way
+-- The changes, unless a file is in their way.
 abbrev pub unless_file : Option (List (List ℕ)) → List Change → Result (List Change) Refusal
 unless_file None changes = Ok changes
 unless_file (Some file) changes = Err (IsFile file)
 
--- A new directory at each path
+-- A new directory at each path.
 abbrev pub puts : ℕ → List (List (List ℕ)) → List Change
 puts time paths = map (λ path. Put path (new_directory time)) paths
 
--- A new directory at each missing one of the paths, unless one is a file
+-- A new directory at each missing one of the paths, unless one is a file.
 abbrev pub directories_at : Namespace → ℕ → List (List (List ℕ)) → Result (List Change) Refusal
 directories_at names time paths = unless_file (first_file names paths) (puts time (missing names paths))
 
--- What a command changes where its record has that time, or its own refusal
+-- What a command changes where its record has that time, or its own refusal.
 abbrev pub changes_for : Namespace → ℕ → Command → Result (List Change) Refusal
 changes_for names time (MakeDir path) = directories_at names time (prefixes path)
 
--- The time of the next record: the clock's, as far as it is past the last one
+-- The time of the next record: the clock's, as far as it is past the last one.
 abbrev pub record_time : ℕ → ℕ → ℕ
 record_time clock last = max (min clock end_of_time) (last + 1)
 
+-- What a plan comes to: a record, nothing to do, or a refusal.
 pub data Planned : Type 0 where
   Recorded : Record → Planned
   Nothing : Planned
@@ -70,11 +71,12 @@ recorded last time [] = Nothing
 recorded last time (change ∷ more) =
     if last == end_of_time then Refused ClockAtEnd else Recorded (record { time = time; changes = change ∷ more })
 
+-- The same of changes that may be refused.
 abbrev pub planned : ℕ → ℕ → Result (List Change) Refusal → Planned
 planned last time (Ok changes) = recorded last time changes
 planned last time (Err refusal) = Refused refusal
 
--- The plan of a command at a clock, over a log whose last time is given
+-- The plan of a command at a clock, over a log whose last time is given.
 abbrev pub plan_of : Namespace → Command → ℕ → ℕ → Planned
 plan_of names command clock last =
     let time = record_time clock last in planned last time (changes_for names time command)
@@ -87,19 +89,19 @@ Plans plan (Err (faults.Refused refusal)) = plan ≡ Refused refusal
 Plans plan (Err faults.KeeperFault) = Unit {0}
 Plans plan (Err faults.Memory) = Unit {0}
 
--- The same of the changes alone
+-- The same of the changes alone.
 abbrev pub Changes : Result (List Change) Refusal → Result (List Change) PlanFault → Type 0
 Changes wanted (Ok changes) = wanted ≡ Ok changes
 Changes wanted (Err (faults.Refused refusal)) = wanted ≡ Err refusal
 Changes wanted (Err faults.KeeperFault) = Unit {0}
 Changes wanted (Err faults.Memory) = Unit {0}
 
--- A new directory at a path other than the root
+-- A new directory at a path other than the root.
 abbrev pub IsNewDirectory : ℕ → Change → Type 0
 IsNewDirectory time (Put path entry) = IsPath path × (path ≢ []) × (entry ≡ new_directory time)
 IsNewDirectory time (Drop path) = ⊥
 
--- New directories, as many as a path has parts at the most
+-- New directories, as many as a path has parts at the most.
 pub record MakesDirectories (time : ℕ) (changes : List Change) : Type 0 where
   pub each : All (IsNewDirectory time) changes
   pub few : length changes ≤ 64

@@ -28,7 +28,7 @@ pub record FitsTypes (change : Change) : Type 0 where
   pub path : IsPath (path_of change)
   pub values : HasFittingValues change
 
--- A Put of a directory
+-- A Put of a directory.
 abbrev pub PutsDirectory : Change → Type 0
 PutsDirectory (Put path entry) = entry.kind ≡ Directory
 PutsDirectory (Drop path) = ⊥

@@ -35,11 +35,12 @@ entry_at text = do
   inner ← fields_of entry.attributes
   Ok (record { fields = entry; attributes = attributes_in inner })
 
+-- The entry of a text, where there is one.
 abbrev pub entry_if_there : Option (List ℕ) → Result (Option EntryParts) WireFault
 entry_if_there None = Ok None
 entry_if_there (Some text) = entry_at text >>= λ entry. Ok (Some entry)
 
--- The entries of a notification
+-- The entries of a notification.
 abbrev pub entries_at : Bool → Option (List ℕ) → Option (List ℕ) → Result EntriesParts WireFault
 entries_at false old_text new_text = do
   old ← entry_if_there old_text
@@ -62,12 +63,13 @@ event_at text = do
 
 -- ---- What they mean, where they mean anything
 
--- The values that fit their types and keep to an entry's limits
+-- The values that fit their types and keep to an entry's limits.
 abbrev pub are_good : AttributesText → Bool
 are_good a =
     nat_lt a.mode (2 ^ 32) && nat_lt a.uid (2 ^ 32) && nat_lt a.gid (2 ^ 32) && nat_lt a.ttl_sec (2 ^ 32)
     && nat_le a.file_size 274877906944 && nat_le (length a.mime) 255 && ((length a.md5 == 0) || (length a.md5 == 16))
 
+-- A kind by its number: 0 is a file.
 abbrev pub kind_of : ℕ → Kind
 kind_of is_directory = if is_directory == 0 then File else Directory
 
@@ -75,6 +77,7 @@ kind_of is_directory = if is_directory == 0 then File else Directory
 abbrev pub is_entry : EntryParts → Bool
 is_entry entry = not entry.fields.has_chunks && are_good entry.attributes
 
+-- The attributes of their fields. An empty digest is none.
 abbrev pub attributes_of : AttributesText → Attributes
 attributes_of a = record {
   file_size = a.file_size;
@@ -88,16 +91,19 @@ attributes_of a = record {
   md5 = if length a.md5 == 0 then None else Some a.md5;
 }
 
+-- The entry of its parts.
 abbrev pub entry_of : EntryParts → Entry
 entry_of entry = record { kind = kind_of entry.fields.is_directory; attributes = attributes_of entry.attributes }
 
--- A text that is read as a path, and a path with a name as one part more
+-- A text that is read as a path, and a path with a name as one part more.
 abbrev pub path_read : List ℕ → Option (List (List ℕ))
 path_read text = if is_none (read_fault text) then Some (parts_in text) else None
 
+-- The path of a name in a directory, where it is one.
 abbrev pub path_with : List ℕ → List (List ℕ) → Option (List (List ℕ))
 path_with name top = if is_none (join_fault top name) then Some (top ++ name ∷ []) else None
 
+-- The same of the text of the directory.
 abbrev pub path_in : List ℕ → List ℕ → Option (List (List ℕ))
 path_in directory name = option_and_then (path_with name) (path_read directory)
 
@@ -112,6 +118,7 @@ directory_put directory entry =
 abbrev pub directory_of_new : EventParts → List ℕ
 directory_of_new event = if length event.notification.new_parent == 0 then event.fields.directory else event.notification.new_parent
 
+-- The path is there, and is that of the change.
 abbrev pub is_path_of : Change → Option (List (List ℕ)) → Bool
 is_path_of change None = false
 is_path_of change (Some path) = bytes_eq (text_of path) (text_of (path_of change))
@@ -121,6 +128,7 @@ abbrev pub stays : List ℕ → Option EntryParts → Change → Bool
 stays directory None change = true
 stays directory (Some old) change = is_entry old && is_path_of change (path_in directory old.fields.name)
 
+-- The change, where its old entry stays.
 abbrev pub if_stays : List ℕ → Option EntryParts → Change → Option Change
 if_stays directory old change = if stays directory old change then Some change else None
 
@@ -131,24 +139,27 @@ change_of event =
     option_and_then (if_stays event.fields.directory event.entries.old_entry)
     (option_and_then (directory_put (directory_of_new event)) event.entries.new_entry)
 
--- All of the values, where each is there
+-- All of the values, where each is there.
 abbrev pub all_of : {X : Type 0} → List (Option X) → Option (List X)
 all_of [] = Some []
 all_of (None ∷ more) = None
 all_of (Some x ∷ more) = option_map (λ xs. x ∷ xs) (all_of more)
 
+-- What comes next, or the fault of the wire.
 abbrev pub or_wire : {X Y : Type 0} → Result X WireFault → (X → Result Y RecordFault) → Result Y RecordFault
 or_wire (Ok x) next = next x
 or_wire (Err fault) next = Err (faults.Wire fault)
 
+-- The change of the text of an event, where it means one.
 abbrev pub change_at : List ℕ → Result (Option Change) WireFault
 change_at text = event_at text >>= λ event. Ok (change_of event)
 
+-- The same of each text, or the first fault.
 abbrev pub each_change_at : List (List ℕ) → Result (List (Option Change)) WireFault
 each_change_at [] = Ok []
 each_change_at (text ∷ more) = change_at text >>= λ change. each_change_at more >>= λ changes. Ok (change ∷ changes)
 
--- The changes of a LogEntry of these fields
+-- The changes of a LogEntry of these fields.
 abbrev pub changes_in : List FieldText → Result (List Change) RecordFault
 changes_in fields = or_wire (each_change_at (messages_at 2 fields)) (λ changes. ok_or (all_of changes) faults.BadRecord)
 
@@ -158,11 +169,12 @@ record_with time changes =
     if nat_le 1 (length changes) && nat_le 1 time && nat_le time end_of_time then Ok (record { time = time; changes = changes })
     else Err faults.BadRecord
 
+-- A record of changes that may be at fault.
 abbrev pub record_from : ℕ → Result (List Change) RecordFault → Result Record RecordFault
 record_from time (Ok changes) = record_with time changes
 record_from time (Err fault) = Err fault
 
--- The record of a text, or its first fault
+-- The record of a text, or its first fault.
 abbrev pub record_of : List ℕ → Result Record RecordFault
 record_of text = or_wire (fields_of text) (λ fields. record_from (last_number 1 fields) (changes_in fields))
 

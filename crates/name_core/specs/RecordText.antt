@@ -14,7 +14,7 @@ use Rattle.name_core.specs.Entry.{IsValid}
 use Rattle.name_core.specs.Namespace.{path_of, AreRootless}
 use Rattle.name_core.specs.Log.{end_of_time}
 
--- FuseAttributes
+-- FuseAttributes.
 abbrev pub attributes_text : Attributes → List ℕ
 attributes_text attributes =
     varint_field 1 attributes.file_size ++ varint_field 2 attributes.mtime ++ varint_field 3 attributes.mode
@@ -22,20 +22,21 @@ attributes_text attributes =
     ++ bytes_field 7 attributes.mime ++ varint_field 10 attributes.ttl_sec
     ++ bytes_field 14 (unwrap_or attributes.md5 [])
 
--- The truth value `is_directory`
+-- The truth value `is_directory`.
 abbrev pub directory_bit : Kind → ℕ
 directory_bit Directory = 1
 directory_bit File = 0
 
--- Entry, with its attributes also where these are empty
+-- Entry, with its attributes also where these are empty.
 abbrev pub entry_text : List ℕ → Entry → List ℕ
 entry_text name entry =
     bytes_field 1 name ++ varint_field 2 (directory_bit entry.kind) ++ message_field 4 (attributes_text entry.attributes)
 
--- The parent of a path, and its last part
+-- The parent of a path, and its last part.
 abbrev pub directory_of : List (List ℕ) → List (List ℕ)
 directory_of path = unwrap_or (parent_of path) []
 
+-- The last part of a path, empty of the root.
 abbrev pub name_of : List (List ℕ) → List ℕ
 name_of path = unwrap_or (last_or None path) []
 
@@ -44,11 +45,11 @@ abbrev pub notification_text : Change → List ℕ
 notification_text (Put path entry) = message_field 2 (entry_text (name_of path) entry)
 notification_text (Drop path) = message_field 1 (bytes_field 1 (name_of path))
 
--- SubscribeMetadataResponse: the directory in which the change is, and what changed
+-- SubscribeMetadataResponse: the directory in which the change is, and what changed.
 abbrev pub change_text : Change → List ℕ
 change_text change = bytes_field 1 (text_of (directory_of (path_of change))) ++ message_field 2 (notification_text change)
 
--- LogEntry: the time, and each change
+-- LogEntry: the time, and each change.
 abbrev pub record_text : Record → List ℕ
 record_text r = varint_field 1 r.time ++ flat_map (λ change. message_field 2 (change_text change)) r.changes
 

@@ -2,6 +2,7 @@
 use Rattle.std.specs.Prelude.{ℕ, List, Some, true, false, ◌==◌, if◌then◌else◌}
 use Rattle.name_core.specs.Messages.{AttributesText, EntryFieldsText, NotificationText, EventFieldsText}
 
+-- Attributes with one number more.
 abbrev pub attributes_with_number : ℕ → ℕ → AttributesText → AttributesText
 attributes_with_number number value a = record {
   file_size = if number == 1 then value else a.file_size;
@@ -15,15 +16,18 @@ attributes_with_number number value a = record {
   md5 = a.md5;
 }
 
+-- Attributes with one text more.
 abbrev pub attributes_with_text : ℕ → List ℕ → AttributesText → AttributesText
 attributes_with_text number text a = record a {
   mime = if number == 7 then text else a.mime;
   md5 = if number == 14 then text else a.md5;
 }
 
+-- An entry with one number more.
 abbrev pub entry_with_number : ℕ → ℕ → EntryFieldsText → EntryFieldsText
 entry_with_number number value e = record e { is_directory = if number == 2 then value else e.is_directory }
 
+-- An entry with one text more.
 abbrev pub entry_with_text : ℕ → List ℕ → EntryFieldsText → EntryFieldsText
 entry_with_text number text e = record e {
   name = if number == 1 then text else e.name;
@@ -31,6 +35,7 @@ entry_with_text number text e = record e {
   attributes = if number == 4 then text else e.attributes;
 }
 
+-- A notification with one text more.
 abbrev pub notification_with_text : ℕ → List ℕ → NotificationText → NotificationText
 notification_with_text number text n = record {
   old_entry = if number == 1 then Some text else n.old_entry;
@@ -39,6 +44,7 @@ notification_with_text number text n = record {
   old_is_last = if number == 1 then true else if number == 2 then false else n.old_is_last;
 }
 
+-- An event with one text more.
 abbrev pub event_with_text : ℕ → List ℕ → EventFieldsText → EventFieldsText
 event_with_text number text e = record {
   directory = if number == 1 then text else e.directory;

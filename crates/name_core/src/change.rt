@@ -28,6 +28,7 @@ impl Change {
     }
 }
 
+/// The changes of a record, in order.
 pub type RecordChanges = Items<Change>;
 
 /// What a log has of one command: its changes, in order.

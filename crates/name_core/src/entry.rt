@@ -92,7 +92,7 @@ impl Entry {
         }
     }
 
-    /// Takes no memory.
+    /// Whether it is a file. Takes no memory.
     pub fn is_file(&self) -> bool
         ensures { result ≡ is_file_kind self.now.kind }
     {

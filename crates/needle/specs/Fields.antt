@@ -13,6 +13,7 @@ four_at place text = from_be_bytes w32 (take 4 (drop place text))
 abbrev pub eight_at : ℕ → List ℕ → ℕ
 eight_at place text = from_be_bytes w64 (take 8 (drop place text))
 
+-- The size that an item tells.
 abbrev pub size_in : List ℕ → ℕ
 size_in text = four_at 12 text
 
@@ -20,6 +21,7 @@ size_in text = four_at 12 text
 abbrev pub counted_in : List ℕ → List ℕ
 counted_in text = take (size_in text) (drop 16 text)
 
+-- The checksum, behind what the size counts.
 abbrev pub checksum_in : List ℕ → ℕ
 checksum_in text = four_at (16 + size_in text) text
 

@@ -35,12 +35,15 @@ pub record Marks : Type 0 where
   pub reserved : Bool
   pub manifest : Bool
 
+-- None of them.
 abbrev pub unmarked : Marks
 unmarked = record { compressed = false; reserved = false; manifest = false }
 
+-- A flag as a number.
 abbrev pub bit : Bool → ℕ
 bit is_set = if is_set then 1 else 0
 
+-- The byte of the flags: of the marks, and of the parts that are there.
 abbrev pub flags : Marks → Needle → ℕ
 flags marks needle =
     bit marks.compressed + 2 * bit (is_some needle.name) + 4 * bit (is_some needle.mime) + 8 * bit (is_some needle.modified)
@@ -63,14 +66,17 @@ abbrev pub content : Item → List ℕ
 content (Live needle) = counted unmarked needle
 content (Gone cookie key) = []
 
+-- The data of an item, none of a deletion.
 abbrev pub body_of : Item → List ℕ
 body_of (Live needle) = needle.body
 body_of (Gone cookie key) = []
 
+-- The cookie of an item.
 abbrev pub cookie_of : Item → ℕ
 cookie_of (Live needle) = needle.cookie
 cookie_of (Gone cookie key) = cookie
 
+-- The key of an item.
 abbrev pub key_of : Item → ℕ
 key_of (Live needle) = needle.key
 key_of (Gone cookie key) = key
@@ -118,6 +124,7 @@ pub record IsWithinLimits (needle : Needle) : Type 0 where
   pub modified : IfSome needle.modified (λ seconds. seconds < 2 ^ 40)
   pub pairs : IfSome needle.pairs (λ pairs. length pairs ≤ 65535)
 
+-- An item may be written: a needle within its limits, and any deletion.
 abbrev pub IsWritable : Item → Type 0
 IsWritable (Live needle) = IsWithinLimits needle
 IsWritable (Gone cookie key) = Unit {0}

@@ -17,5 +17,6 @@ abbrev pub version_byte : Version → ℕ
 version_byte V2 = 2
 version_byte V3 = 3
 
+-- The byte is that of a version.
 abbrev pub IsVersionByte : ℕ → Type 0
 IsVersionByte byte = (version : Version) × (byte ≡ version_byte version)

@@ -15,6 +15,7 @@ use Rattle.needle.specs.declared.frame.Frame.{Frame}
 use Rattle.needle.specs.declared.parts.Parts.{Parts}
 use Rattle.needle.specs.declared.item.Needle.{Needle}
 
+-- What is read next, where this was there.
 infixl 10 ◌>>=◌
 abbrev pub ◌>>=◌ : {A B : Type 0} → Option A → (A → Option B) → Option B
 read >>= next = option_and_then next read
@@ -95,6 +96,7 @@ contents_of parts = record {
   pairs = option_copied parts.pairs;
 }
 
+-- A needle of what was read.
 abbrev pub needle_from : ℕ → ℕ → Contents → Needle
 needle_from cookie key read = record {
   cookie = cookie;

@@ -11,6 +11,7 @@ use Rattle.needle.specs.Layout.{version_byte, IsVersionByte}
 abbrev pub placement_byte : Placement → ℕ
 placement_byte placement = 100 * placement.x + 10 * placement.y + placement.z
 
+-- The byte is that of a placement.
 abbrev pub IsPlacementByte : ℕ → Type 0
 IsPlacementByte byte = (placement : Placement) × (byte ≡ placement_byte placement)
 

@@ -15,6 +15,7 @@ pub record Index : Type 0 where
   pub spots : Spots
   pub spare : ℕ
 
+-- A spot is stored as the pair of its fields.
 abbrev pub spot_code : Coded Spot
 spot_code = code_by (ℕ × ℕ) (coded× coded_ℕ coded_ℕ) (λ s. (s.offset, s.size)) (λ p. record { offset = p.0; size = p.1 }) (λ _. refl)
 

@@ -18,7 +18,7 @@ impl Entry {
     /// The size of an entry that removes its key.
     pub const REMOVED: u32 = u32::MAX;
 
-    /// Takes no memory.
+    /// The entry of these bytes: key, offset and size, each with the high byte first. Takes no memory.
     pub fn read(bytes: &[u8; 16]) -> Entry
         ensures { result ≡ entry_of bytes.now }
     {
@@ -47,7 +47,7 @@ impl Entry {
         }
     }
 
-    /// Takes no memory.
+    /// The bytes of the entry. Takes no memory.
     pub fn write(&self) -> [u8; 16]
         ensures text { result ≡ entry_text self.now }
         ensures read_back { entry_of result ≡ self.now }

@@ -25,6 +25,7 @@ impl Model for Slots {
 }
 
 impl Slots {
+    /// Of no key. Takes no memory.
     pub fn new(alloc: Global) -> Slots
         ensures { result.spots ≡ empty }
     {
@@ -33,12 +34,14 @@ impl Slots {
         }
     }
 
+    /// The spot of a key. Takes no memory.
     pub fn get(&self, key: u64) -> Option<Spot>
         ensures { result ≡ get self.now.spots key }
     {
         self.map.get(&key).copied()
     }
 
+    /// Takes the memory for so many puts more.
     pub fn reserve(&mut self, puts: usize) -> Result<(), AllocError>
         ensures spots { self.new.spots ≡ self.old.spots }
         ensures ok { OnOk result (puts ≤ self.new.spare) }
@@ -47,6 +50,7 @@ impl Slots {
         self.map.reserve(puts)
     }
 
+    /// Puts a spot at a key, and answers the former one. Fails only where no put is taken ahead.
     pub fn insert(&mut self, key: u64, spot: Spot) -> Result<Option<Spot>, AllocError>
         ensures former { IfOk result (λ former. former ≡ get self.old.spots key) }
         ensures ok { OnOk result (self.new.spots ≡ insert self.old.spots key spot) }
@@ -57,6 +61,7 @@ impl Slots {
         Ok(self.map.insert(key, spot)?)
     }
 
+    /// Takes a key out, and answers its spot. Takes no memory.
     pub fn remove(&mut self, key: u64) -> Option<Spot>
         ensures former { result ≡ get self.old.spots key }
         ensures spots { self.new.spots ≡ remove self.old.spots key }

@@ -16,16 +16,19 @@ pub data ValueText : Type 0 where
   Bytes : List ℕ → ValueText
   Fixed32 : ℕ → ValueText
 
+-- A field without where it lies in memory.
 pub record FieldText : Type 0 where
   pub number : ℕ
   pub value : ValueText
 
+-- A value as such.
 abbrev pub value_text : Value → ValueText
 value_text (values.Varint n) = Varint n
 value_text (values.Fixed64 n) = Fixed64 n
 value_text (values.Bytes bytes) = Bytes bytes.now
 value_text (values.Fixed32 n) = Fixed32 n
 
+-- A field as such.
 abbrev pub field_text : Field → FieldText
 field_text field = record { number = field.number; value = value_text field.value }
 
@@ -44,6 +47,7 @@ pub record IsVarint (bytes : List ℕ) (n : ℕ) : Type 0 where
   pub short : length bytes ≤ 10
   pub fits : n < 2 ^ 64
 
+-- The wire type of a value, by its number.
 abbrev pub kind_of : ValueText → ℕ
 kind_of (Varint n) = 0
 kind_of (Fixed64 n) = 1
@@ -74,6 +78,7 @@ pub record IsField (text : List ℕ) (number : ℕ) (value : ValueText) : Type 0
 
 -- ---- Reading from the left: what is at the front and the bytes behind it, or the first fault
 
+-- What is read next, or the first fault.
 infixl 10 ◌>>=◌
 abbrev pub ◌>>=◌ : {A B : Type 0} → Result A WireFault → (A → Result B WireFault) → Result B WireFault
 (Ok x) >>= f = f x
@@ -86,13 +91,16 @@ number_within (suc most) [] = Err Truncated
 number_within (suc most) (b ∷ bytes) =
     if nat_lt b 128 then Ok (b, bytes) else (number_within most bytes >>= λ high. Ok (b - 128 + 128 * high.0, high.1))
 
+-- A varint at the front: at most ten bytes, below 2^64.
 unfoldable pub varint_at : List ℕ → Result (ℕ × List ℕ) WireFault
 varint_at bytes = number_within 10 bytes >>= λ n. if nat_lt n.0 (2 ^ 64) then Ok n else Err BadVarint
 
+-- A number of that width at the front, with the low byte first.
 unfoldable pub fixed_at : Width → List ℕ → Result (ℕ × List ℕ) WireFault
 fixed_at w bytes =
     if nat_lt (length bytes) (byte_len w) then Err Truncated else Ok (from_le_bytes w (take (byte_len w) bytes), drop (byte_len w) bytes)
 
+-- A length at the front, and that many bytes.
 unfoldable pub bytes_at : List ℕ → Result (List ℕ × List ℕ) WireFault
 bytes_at bytes = do
   n ← varint_at bytes

@@ -6,6 +6,7 @@ use Rattle.proto_wire.specs.declared.field.Field.{Field}
 use Rattle.proto_wire.specs.Field.{◌>>=◌, FieldText, field_text, IsField, field_at, with_first, fields_of}
 use Rattle.proto_wire.specs.Refusal.{IsRefused}
 
+-- The name of a fault.
 abbrev pub name_of : WireFault → List ℕ
 name_of Truncated = codes "Truncated"
 name_of BadVarint = codes "BadVarint"
@@ -23,6 +24,7 @@ next_of (Err fault) = Err fault
 next_of (Ok []) = Ok None
 next_of (Ok (b ∷ bytes)) = field_at (b ∷ bytes) >>= λ found. Ok (Some found.0)
 
+-- What is left behind the next field.
 abbrev pub left_after : Result (List ℕ) WireFault → Result (List ℕ) WireFault
 left_after (Err fault) = Err fault
 left_after (Ok []) = Ok []

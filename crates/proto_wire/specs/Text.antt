@@ -18,6 +18,7 @@ groups (suc most) n = if nat_lt n 128 then n ∷ [] else (n % 128 + 128) ∷ gro
 unfoldable pub varint_text : ℕ → List ℕ
 varint_text n = groups 10 n
 
+-- The tag of a field: its number, and its wire type in the low three bits.
 abbrev pub tag_text : ℕ → ℕ → List ℕ
 tag_text number kind = varint_text (number * 8 + kind)
 

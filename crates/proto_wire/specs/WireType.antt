@@ -3,6 +3,7 @@ use Rattle.std.specs.Prelude.{ℕ}
 use Rattle.proto_wire.specs.declared.wire_type.WireType.{WireType}
 use Rattle.proto_wire.specs.declared.wire_type.WireType.TheVariants.{Varint, Fixed64, Bytes, Fixed32}
 
+-- The number of a wire type.
 abbrev pub code_of : WireType → ℕ
 code_of Varint = 0
 code_of Fixed64 = 1

@@ -50,6 +50,7 @@ impl Head {
         head
     }
 
+    /// Adds a byte.
     pub fn push(&mut self, byte: u8)
         requires { length self.old < 20 }
         ensures { self.new ≡ self.old ++ byte ∷ [] }
@@ -58,6 +59,7 @@ impl Head {
         self.length += 1;
     }
 
+    /// Adds the shortest spelling of a number.
     pub fn push_varint(&mut self, number: u64)
         requires { length self.old ≤ 10 }
         ensures { self.new ≡ self.old ++ varint_text number }
@@ -70,6 +72,7 @@ impl Head {
         self.push(rest as u8);
     }
 
+    /// Adds a number's four bytes, the low one first.
     pub fn push_fixed32(&mut self, number: u32)
         requires { length self.old ≤ 10 }
         ensures { self.new ≡ self.old ++ to_le_bytes w32 number }
@@ -79,6 +82,7 @@ impl Head {
         }
     }
 
+    /// Its bytes.
     pub fn as_slice(&self) -> &[u8]
         ensures { result.now ≡ self.now }
     {

@@ -26,7 +26,7 @@ impl<'a> Model for Reader<'a> {
 }
 
 impl<'a> Reader<'a> {
-    /// Takes no memory.
+    /// A reader of the fields of this text. Takes no memory.
     pub fn new(text: &'a [u8]) -> Reader<'a>
         ensures { result ≡ Ok text.now }
     {

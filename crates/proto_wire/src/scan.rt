@@ -107,6 +107,7 @@ fn value_of(wire_type: u64, text: &[u8]) -> Result<(Value<'_>, &[u8]), WireFault
     }
 }
 
+/// The field at the front of the text, and the bytes behind it.
 #[tactic(auto, unfolding(crate::specs::Field::field_at))]
 pub fn field_of(text: &[u8]) -> Result<(Field<'_>, &[u8]), WireFault>
     ensures answer { Gives (λ found. (field_text found.0, found.1.now)) result (field_at text.now) }

@@ -3,7 +3,7 @@ use Rattle.std.specs.Prelude.{ℕ, List, [], ◌++◌, codes, decimal}
 use Rattle.weed.specs.declared.exit.Exit.{Exit}
 use Rattle.weed.specs.declared.exit.Exit.TheVariants.{Done, BadWords, DiskFault, Damaged, ReadFault, WriteFault, Memory, TurnsSpent}
 
--- the status of the process
+-- The status of the process.
 abbrev pub status_of : Exit → ℕ
 status_of Done = 0
 status_of (BadWords place) = 1
@@ -14,7 +14,7 @@ status_of WriteFault = 6
 status_of Memory = 7
 status_of TurnsSpent = 15
 
--- the line on standard error, nothing where all is done
+-- The line on standard error, nothing where all is done.
 abbrev pub line_of : Exit → List ℕ
 line_of Done = []
 line_of (BadWords place) = codes "weed: bad word " ++ (decimal place ++ codes "\n")

@@ -11,7 +11,7 @@ use Rattle.weed.specs.declared.plain_filer.PlainFiler.{PlainFiler}
 use Rattle.weed.specs.declared.plain_filer.MakeFault.{MakeFault}
 use Rattle.weed.specs.declared.plain_filer.MakeFault.TheVariants as fault
 
--- The log that a filer adds to
+-- The log that a filer adds to.
 abbrev pub log_of : PlainFiler → MetaLog
 log_of filer = filer.log
 
@@ -37,13 +37,13 @@ pub record IsFiledFrom (files : Files) (told : Option Files) (filer : PlainFiler
 abbrev pub TellsEither : Option Files → List Record → List Record → Type 0
 TellsEither told records more = IsSomeAnd told (λ files. IsRecordLog files records ⊎ IsRecordLog files (records ++ more))
 
--- The records that a plan adds
+-- The records that a plan adds.
 abbrev pub added_by : Planned → List Record
 added_by (Recorded made) = made ∷ []
 added_by Nothing = []
 added_by (Refused refusal) = []
 
--- A plan that isn't refused
+-- A plan that isn't refused.
 abbrev pub IsAccepted : Planned → Type 0
 IsAccepted (Recorded made) = Unit {0}
 IsAccepted Nothing = Unit {0}

@@ -7,26 +7,26 @@ use Rattle.weed.specs.Request.{IsRequest, BeginsWithRequest}
 use Rattle.weed.specs.declared.inbox.Head.{Head}
 use Rattle.weed.specs.declared.inbox.Head.TheVariants.{End, Request, NotYet}
 
--- the target of the last request, and the bytes that are still to be used
+-- The target of the last request, and the bytes that are still to be used.
 pub record InboxState : Type 0 where
   pub target : List ℕ
   pub pending : List ℕ
 
--- all bytes left: those read ahead, and those of the source, where they are told
+-- All bytes left: those read ahead, and those of the source, where they are told.
 abbrev pub left_of : List ℕ → Option (List ℕ) → Option (List ℕ)
 left_of pending left = option_map (λ bytes. pending ++ bytes) left
 
--- something, which no request begins
+-- Something, which no request begins.
 abbrev pub IsNoRequest : List ℕ → Type 0
 IsNoRequest bytes = (bytes ≢ []) × (¬ BeginsWithRequest bytes)
 
--- it takes more to tell what these bytes begin: no head of them is whole, and one may still be
+-- It takes more to tell what these bytes begin: no head of them is whole, and one may still be.
 pub record LacksHead (bytes : List ℕ) : Type 0 where
   pub none : HasNoEndBelow bytes (length bytes)
   pub short : length bytes < 16384
 
--- of all these bytes, those in front of what the source had left lacked a head; it was read once, and lost the bytes
--- that this gave
+-- Of all these bytes, those in front of what the source had left lacked a head; it was read once, and lost the bytes
+-- that this gave.
 pub record IsNeededRead {S : Type 0} (left : S → Option (List ℕ)) (reads : S → ℕ) (all : Option (List ℕ)) (old new : S) : Type 0 where
   pub ahead : List ℕ
   pub came : Consumes all (left old) ahead
@@ -35,31 +35,31 @@ pub record IsNeededRead {S : Type 0} (left : S → Option (List ℕ)) (reads : S
   pub gave : List ℕ
   pub took : Consumes (left old) (left new) gave
 
--- it was read so often, each time so, and each time it gave something
+-- It was read so often, each time so, and each time it gave something.
 abbrev pub AreNeededReads : {S : Type 0} → (S → Option (List ℕ)) → (S → ℕ) → Option (List ℕ) → ℕ → S → S → Type 0
 AreNeededReads left reads all zero old new = new ≡ old
 AreNeededReads {S = S} left reads all (suc count) old new =
     (mid : S) × AreNeededReads left reads all count old mid × (read : IsNeededRead left reads all mid new) × (read.gave ≢ [])
 
--- it was read no more often than it took to tell what stands at the front of all the bytes that were left: no read
--- came behind one that gave nothing
+-- It was read no more often than it took to tell what stands at the front of all the bytes that were left: no read
+-- came behind one that gave nothing.
 abbrev pub ReadsAsNeeded : {S : Type 0} → (S → Option (List ℕ)) → (S → ℕ) → Option (List ℕ) → S → S → Type 0
 ReadsAsNeeded {S = S} left reads all old new =
     (count : ℕ) × (mid : S) × AreNeededReads left reads all count old mid × ((new ≡ mid) ⊎ IsNeededRead left reads all mid new)
 
--- what stood at the front of the bytes left: nothing, a request, which was taken, or something else
+-- What stood at the front of the bytes left: nothing, a request, which was taken, or something else.
 abbrev pub FindsHead : Head → Option (List ℕ) → Option (List ℕ) → List ℕ → Type 0
 FindsHead End old new target = IsAtEnd old × (new ≡ old)
 FindsHead Request old new target = (text : List ℕ) × IsRequest text target × Consumes old new text
 FindsHead NotYet old new target = IfSome old IsNoRequest × (new ≡ old)
 
--- the same of so many first bytes of an inbox
+-- The same of so many first bytes of an inbox.
 abbrev pub TakesHead : Head → InboxState → InboxState → ℕ → Type 0
 TakesHead End old new count = ⊥
 TakesHead Request old new count = IsRequest (take count old.pending) new.target × (new.pending ≡ drop count old.pending)
 TakesHead NotYet old new count = ((target : List ℕ) → ¬ IsRequest (take count old.pending) target) × (new ≡ old)
 
--- bytes of the source were added, none only at its end
+-- Bytes of the source were added, none only at its end.
 abbrev pub Adds : List ℕ → List ℕ → Option (List ℕ) → Option (List ℕ) → ℕ → Type 0
 Adds pending new left new_left count =
     (bytes : List ℕ) × (length bytes ≡ count) × (new ≡ pending ++ bytes) × Consumes left new_left bytes × (count ≡ 0 → IsAtEnd new_left)

@@ -5,27 +5,27 @@ use Rattle.std.specs.Cmp.Lexicographic.{pointwise}
 use Rattle.std.specs.List.{prefix_len}
 use Rattle.weed.specs.Request.{is_target_byte, is_framed, is_host}
 
--- the text behind the prefix
+-- The text behind the prefix.
 abbrev pub behind : List ℕ → List ℕ → Option (List ℕ)
 behind prefix text = if pointwise nat_eq (take (length prefix) text) prefix then Some (drop (length prefix) text) else None
 
--- the text ahead of the suffix
+-- The text ahead of the suffix.
 abbrev pub ahead : List ℕ → List ℕ → Option (List ℕ)
 ahead suffix text =
     let n = length text - length suffix in
     if pointwise nat_eq (drop n text) suffix then Some (take n text) else None
 
--- what the line names as the host, where it stands alone ahead of the empty line
+-- What the line names as the host, where it stands alone ahead of the empty line.
 abbrev pub host_of : List ℕ → Option (List ℕ)
 host_of text = option_and_then (ahead (codes "\r\n\r\n")) (behind (codes "Host: ") text)
 
--- the lines behind the first: the empty one, with or without one that names the host
+-- The lines behind the first: the empty one, with or without one that names the host.
 abbrev pub is_head_end : List ℕ → Bool
 is_head_end text =
     pointwise nat_eq text (codes "\r\n")
     || option_map_or is_host (host_of text) false
 
--- the target at the front of what stands behind the method
+-- The target at the front of what stands behind the method.
 abbrev pub target_at : List ℕ → Option (List ℕ)
 target_at text =
     let n = prefix_len is_target_byte text in
@@ -33,6 +33,6 @@ target_at text =
     (λ lines. if is_framed (take n text) && is_head_end lines then Some (take n text) else None)
     (behind (codes " HTTP/1.1\r\n") (drop n text))
 
--- the target of a whole request
+-- The target of a whole request.
 abbrev pub target_of : List ℕ → Option (List ℕ)
 target_of text = if nat_le (length text) 16384 then option_and_then target_at (behind (codes "POST ") text) else None

@@ -35,10 +35,10 @@ GivesSuch Such Moves Tears log moments files later filer (Err Memory) =
 GivesSuch Such Moves Tears log moments files later filer (Err DiskFault) =
     (says : Answering) × Such says × TellsEither files log says.added × (later ≡ Some (moments_after says moments)) × Tears (log ++ says.added)
 
--- The same of a request for a target
+-- The same of a request for a target.
 abbrev pub Gives : List Record → List ℕ → List ℕ → (List Record → Type 0) → (List Record → Type 0) → Option Files → Option (List ℕ) → PlainFiler → Result Reply ReplyFault → Type 0
 Gives log moments target Moves Tears = GivesSuch (IsReply log (first_moment moments) target) Moves Tears log moments
 
--- The same of a request for a path
+-- The same of a request for a path.
 abbrev pub GivesFor : List (List ℕ) → List Record → List ℕ → (List Record → Type 0) → (List Record → Type 0) → Option Files → Option (List ℕ) → PlainFiler → Result Reply ReplyFault → Type 0
 GivesFor path log moments Moves Tears = GivesSuch (λ says. says ≡ reply_to log (first_moment moments) path) Moves Tears log moments

@@ -24,13 +24,13 @@ pub record Begins (old new : Option Files) (session : Session) : Type 0 where
   pub empty : session.inbox.pending ≡ []
   pub filed : IfSome old (λ files. IsFiledFrom files new session.filer)
 
--- How a run ends where its log wasn't opened
+-- How a run ends where its log wasn't opened.
 abbrev pub exit_of_fault : LogFault → Exit
 exit_of_fault fault.DiskFault = exit.DiskFault
 exit_of_fault (fault.Damaged file at) = exit.Damaged file at
 exit_of_fault fault.Memory = exit.Memory
 
--- The ends of a run before its session: by the disk, by want of memory, or by a damaged log
+-- The ends of a run before its session: by the disk, by want of memory, or by a damaged log.
 abbrev pub IsEarly : Exit → Type 0
 IsEarly exit.DiskFault = ⊤
 IsEarly exit.Memory = ⊤

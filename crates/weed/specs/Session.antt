@@ -13,23 +13,26 @@ use Rattle.weed.specs.declared.exit.Exit.{Exit}
 use Rattle.weed.specs.declared.exit.Exit.TheVariants as exit
 
 -- What is told of a session between two requests: the input left, the bytes sent, the log, and the moments
--- that the clock is going to give
+-- that the clock is going to give.
 pub record State : Type 0 where
   pub left : List ℕ
   pub sent : List ℕ
   pub log : List Record
   pub moments : List ℕ
 
--- How many requests a session answers at most
+-- How many requests a session answers at most.
 abbrev pub most_turns : ℕ
 most_turns = 2 ^ 40
 
+-- The answer 503.
 abbrev pub memory_answer : List ℕ
 memory_answer = refused_text ServiceUnavailable (codes "Memory") false
 
+-- The answer 500.
 abbrev pub disk_answer : List ℕ
 disk_answer = refused_text InternalServerError (codes "DiskFault") true
 
+-- The answer 501.
 abbrev pub not_yet_answer : List ℕ
 not_yet_answer = refused_text NotImplemented (codes "NotYet") true
 
@@ -73,7 +76,7 @@ abbrev pub Answers : State → List ℕ → List ℕ → Bool → List Record �
 Answers old rest answer closes log moments =
     Replies old rest answer closes log moments ⊎ Lacks old rest answer closes log moments ⊎ Refuses old rest answer closes log moments
 
--- One request, whose answer was sent whole, and after which the session goes on
+-- One request, whose answer was sent whole, and after which the session goes on.
 abbrev pub Turn : State → State → Type 0
 Turn old new = (answer : List ℕ) × Answers old new.left answer false new.log new.moments × (new.sent ≡ old.sent ++ answer)
 
@@ -82,11 +85,11 @@ abbrev pub Steps : (State → State → Type 0) → State → List State → Typ
 Steps Step old [] = ⊤
 Steps Step old (new ∷ later) = Step old new × Steps Step new later
 
--- Requests, each over what the ones before it left, with the state behind each of them
+-- Requests, each over what the ones before it left, with the state behind each of them.
 abbrev pub Turns : State → List State → Type 0
 Turns first path = Steps Turn first path
 
--- The last state of a path, the first one where it is empty
+-- The last state of a path, the first one where it is empty.
 abbrev pub last_of : State → List State → State
 last_of first [] = first
 last_of first (next ∷ later) = last_of next later
@@ -96,7 +99,7 @@ abbrev pub ReadsAlong : {S : Type 0} → (S → Option (List ℕ)) → (S → �
 ReadsAlong left reads old new first [] = new ≡ old
 ReadsAlong {S = S} left reads old new first (next ∷ later) = (mid : S) × ReadsAsNeeded left reads (Some first.left) old mid × ReadsAlong left reads mid new next later
 
--- The same along a path and at its end
+-- The same along a path and at its end.
 abbrev pub ReadsNoMore : {S : Type 0} → (S → Option (List ℕ)) → (S → ℕ) → S → S → State → List State → Type 0
 ReadsNoMore {S = S} left reads old new first path =
     (mid : S) × ReadsAlong left reads old mid first path × ReadsAsNeeded left reads (Some (last_of first path).left) mid new
@@ -114,17 +117,17 @@ SendsUnlessCut Cut before answer sent = (sent ≡ before ++ answer) ⊎ (Cut × 
 
 -- How a session ends behind a request that was answered whole, or at its start, where `Cut` says that a send failed:
 abbrev pub EndsAfter : (Cut : Type 0) → Exit → State → State → Type 0
--- at the end of the input, or with an answer that closes
+-- At the end of the input, or with an answer that closes.
 EndsAfter Cut exit.Done old last =
     ((old.left ≡ []) × Rests old last)
     ⊎ ((answer : List ℕ) × Answers old last.left answer true last.log last.moments × (last.sent ≡ old.sent ++ answer))
--- before the next request was read
+-- Before the next request was read.
 EndsAfter Cut exit.ReadFault old last = Rests old last
--- with a front of the answer that was due
+-- With a front of the answer that was due.
 EndsAfter Cut exit.WriteFault old last =
     (answer : List ℕ) × (closes : Bool) × (count : ℕ) × Answers old last.left answer closes last.log last.moments
     × (last.sent ≡ old.sent ++ take count answer)
--- with the answer 500, and with the records of the request that met the fault in the log or not
+-- With the answer 500, and with the records of the request that met the fault in the log or not.
 EndsAfter Cut exit.DiskFault old last =
     (target : List ℕ) × (says : Answering) × Requests old.left target last.left
     × IsReply old.log (first_moment old.moments) target says × SendsUnlessCut Cut old.sent disk_answer last.sent
@@ -134,7 +137,7 @@ EndsAfter Cut (exit.Damaged file at) old last = ⊥
 EndsAfter Cut exit.Memory old last = ⊥
 EndsAfter Cut exit.TurnsSpent old last = ⊥
 
--- The log that the last request of a session led to, or was to lead to where it met a fault of the disk
+-- The log that the last request of a session led to, or was to lead to where it met a fault of the disk.
 abbrev pub LeadsTo : Exit → State → State → List Record → Type 0
 LeadsTo exit.DiskFault old last log =
     (target : List ℕ) × (says : Answering) × Requests old.left target last.left × IsReply old.log (first_moment old.moments) target says

@@ -2,6 +2,6 @@
 use Rattle.std.specs.Prelude.{ℕ, ◌-◌, List, take, drop}
 use Rattle.weed.specs.declared.inbox.Span.{Span}
 
--- the bytes from the span's start up to its end
+-- The bytes from the span's start up to its end.
 abbrev pub part_at : Span → List ℕ → List ℕ
 part_at span bytes = take (span.end - span.start) (drop span.start bytes)

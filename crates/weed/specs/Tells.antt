@@ -68,6 +68,7 @@ IsSessionEnd exit.Memory = ⊥
 IsSessionEnd (exit.BadWords place) = ⊥
 IsSessionEnd (exit.Damaged file at) = ⊥
 
+-- A turn leaves the session open, or ends it so.
 abbrev pub IsTurnEnd : Turned → Type 0
 IsTurnEnd Open = ⊤
 IsTurnEnd (Ended end) = IsSessionEnd end

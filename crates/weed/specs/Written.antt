@@ -2,10 +2,10 @@
 use Rattle.std.specs.Prelude.{ℕ, Option, List, take, Result, MatchResult}
 use Rattle.weed_base.specs.Told.{Appends}
 
--- what was written has grown by some first bytes of these
+-- What was written has grown by some first bytes of these.
 abbrev pub AppendsFront : Option (List ℕ) → Option (List ℕ) → List ℕ → Type 0
 AppendsFront old new bytes = (count : ℕ) × Appends old new (take count bytes)
 
--- what was written has grown by these bytes, or by some first ones where the call failed
+-- What was written has grown by these bytes, or by some first ones where the call failed.
 abbrev pub WritesAll : {T E : Type 0} → Option (List ℕ) → Option (List ℕ) → Result T E → List ℕ → Type 0
 WritesAll old new result bytes = MatchResult result (λ _. Appends old new bytes) (λ _. AppendsFront old new bytes)
