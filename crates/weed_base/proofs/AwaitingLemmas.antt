@@ -210,3 +210,9 @@ set_any P xs place before new within was back (k, x, below, is, holds) =
           (place, before, within, sym was, back (subst P (sym stands) holds))
       | inr other ↦ (k, x, subst (λ n. k < n) (length-set xs place new) below, sym (get_or-set_other xs place k new x other) ∙ is, holds)
     ]
+
+-- what passes the test awaits something
+pub something_awaited : (mark : Awaits) → awaits_something mark ≡ true → mark ≢ Nothing
+something_awaited Nothing passes = λ none. absurd (cc passes)
+something_awaited Data passes = λ none. absurd (cc none)
+something_awaited Everything passes = λ none. absurd (cc none)

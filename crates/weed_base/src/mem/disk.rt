@@ -231,6 +231,8 @@ impl Disk for MemDisk {
 
     fn names(&mut self, alloc: Global) -> Result<Items<FileName>, NamesFault>
         ensures call { IsDiskCall self.old self.new result }
+        ensures calls { self.new.calls ≡ called self.old.calls }
+        ensures only { IsErrOf result NamesFault.Failed ↔ IsTrue (fails_next self.old.calls) }
         ensures past { (self.new.past ≡ self.old.past) × (self.new.untold ≡ self.old.untold) }
         ensures names { IfOk result (λ names. names ≡ keys (present self.old)) }
         ensures files { Some (present self.new) ≡ Some (present self.old) }

@@ -1,5 +1,5 @@
 //! The open files of a directory, and what they await of the next sync.
-ghost use Rattle.std.specs.Prelude.{◌≡◌, ◌<◌, ◌+◌, ◌^◌, ◌⊎◌, ℕ, List, [], length, true, false, IfOk, OnOk};
+ghost use Rattle.std.specs.Prelude.{◌≡◌, ◌≢◌, ◌≤◌, ◌<◌, ◌+◌, ◌^◌, ◌⊎◌, ℕ, List, [], length, true, false, IfOk, OnOk};
 ghost use Rattle.std.specs.List.{All, AllZip, position};
 ghost use Rattle.std.specs.Str.{bytes_eq};
 ghost use Rattle.weed_base.specs.System.{Wrote, CutTo, SettledAll};
@@ -140,6 +140,7 @@ impl<F: SystemFile + Drop> KeptFiles<F> {
     fn let_idle_go(&mut self)
         ensures still { StillAwaits self.old.files.items self.new.files.items }
         ensures only { OpensNone self.old.files.items self.new.files.items }
+        ensures few { 64 ≤ length self.old.files.items → All (λ kept. kept.awaits ≢ Nothing) self.new.files.items }
         ensures names { self.new.names_await ≡ self.old.names_await }
         ensures directory { self.new.directory ≡ self.old.directory }
     {

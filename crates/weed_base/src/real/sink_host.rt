@@ -16,7 +16,7 @@ pub trait WholeDisk: Disk {
     ghost whole: { Self.MARKS_ONLY ≡ false };
 }
 
-/// A host of a disk and a sink. Each send is one write of the sink. Of what was sent it tells nothing.
+/// A host of a disk and a sink, to which it sends. Of what was sent it tells nothing.
 #[derive(Drop)]
 pub struct SinkHost<D, K> {
     disk: D,

@@ -1,8 +1,9 @@
 use Rattle.std.proofs.Common.{rules, ◌≡◌, List, subst}
 use Rattle.std.proofs.lemmas.Fn.{filter_same}
+use Rattle.std.proofs.lemmas.List.Elements.{filter_passes}
 use Rattle.weed_base.specs.Awaiting.{IsOpenAs}
 use Rattle.weed_base.specs.declared.real.kept.KeptFile.{KeptFile}
-use Rattle.weed_base.proofs.AwaitingLemmas.{still_awaiting, awaits_something, filter_any}
+use Rattle.weed_base.proofs.AwaitingLemmas.{still_awaiting, awaits_something, filter_any, something_awaited}
 use Rattle.weed_base.proofs.real.kept.KeptFiles.let_idle_go.Goals as goal
 
 pub returns-then-len-ge-MAX_KEPT-clause-still : goal.returns-then-len-ge-MAX_KEPT-clause-still
@@ -14,3 +15,8 @@ returns-then-len-ge-MAX_KEPT-clause-only g c = λ name file found.
     filter_any (λ kept. (kept.name ≡ name) × (kept.file ≡ file)) (λ kept. awaits_something kept.awaits) c.args.self.now.files.items
     (subst (λ (files : List (KeptFile g.row.F.Denot)). IsOpenAs name file files)
     (filter_same _ (λ (kept : KeptFile g.row.F.Denot). awaits_something kept.awaits) _ (λ x b f' k. search rules) _ _ c.retain.ensures.filtered) found)
+
+pub returns-then-len-ge-MAX_KEPT-clause-few : goal.returns-then-len-ge-MAX_KEPT-clause-few
+returns-then-len-ge-MAX_KEPT-clause-few g c = λ many.
+    rw (filter_same _ (λ (kept : KeptFile g.row.F.Denot). awaits_something kept.awaits) _ (λ x b f' k. search rules) _ _ c.retain.ensures.filtered)
+    (λ k d below none. something_awaited _ (filter_passes (λ (kept : KeptFile g.row.F.Denot). awaits_something kept.awaits) c.args.self.now.files.items k d below) none)
