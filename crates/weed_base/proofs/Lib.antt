@@ -8,5 +8,6 @@ pub mod HistoryLemmas
 pub mod ReplayLemmas
 pub mod DiskCallLemmas
 pub mod StreamLemmas
+pub mod ListLemmas
 pub mod AwaitingLemmas
 pub mod FolderLemmas

@@ -53,6 +53,10 @@ pub record FallsByAnswer {F : Type 0} (answered : FileCall → F → Type 0) (be
   pub file : after.file ≡ before.file
   pub mark : (after.awaits ≡ before.awaits) ⊎ ((after.awaits ≡ Nothing) × IsSettledBy answered before.awaits before.file)
 
+-- The file awaits something.
+abbrev pub AwaitsSomething : {F : Type 0} → KeptFile F → Type 0
+AwaitsSomething kept = kept.awaits ≢ Nothing
+
 -- The file awaits nothing.
 abbrev pub AwaitsNothing : {F : Type 0} → KeptFile F → Type 0
 AwaitsNothing kept = kept.awaits ≡ Nothing

@@ -11,11 +11,13 @@ abbrev pub fault_if : Bool → PathFault → Option PathFault
 fault_if true fault = Some fault
 fault_if false fault = None
 
+-- The first fault of a list
 abbrev pub first_fault : List (Option PathFault) → Option PathFault
 first_fault [] = None
 first_fault (None ∷ more) = first_fault more
 first_fault (Some fault ∷ more) = Some fault
 
+-- Of one part
 abbrev pub part_fault : List ℕ → Option PathFault
 part_fault part = first_fault
     (fault_if (length part == 0) EmptyPart
@@ -23,7 +25,7 @@ part_fault part = first_fault
     ∷ fault_if (nat_lt 255 (length part)) PartTooLong
     ∷ [])
 
--- The first bad part from the left comes before their number.
+-- Of parts. The first bad part from the left comes before their number.
 abbrev pub parts_fault : List (List ℕ) → Option PathFault
 parts_fault parts = first_fault
     (first_fault (map part_fault parts)

@@ -43,11 +43,11 @@ fn read_behind<F: SystemFile>(file: &F, at: u64, room: &mut [u8], done: usize) -
     file.read_some(at, &mut room[done..])
 }
 
-/// The path of the directory that the place's own name stands in.
-fn directory_above(place: &str) -> &str
-    ensures { result.now ≡ directory_above place.now }
+/// The path of the directory that a path's own name stands in.
+fn directory_above(path: &str) -> &str
+    ensures { result.now ≡ directory_above path.now }
 {
-    match Path::new(place).parent() {
+    match Path::new(path).parent() {
         Some(above) if !above.as_str().is_empty() => above.as_str(),
         _ => ".",
     }
@@ -77,24 +77,24 @@ fn settle_at<F: SystemFile + Drop, R: System<File = F>>(system: &R, path: &str) 
 
 /// Makes the directory where it isn't there, and settles its name: an earlier process may have been stopped
 /// before it did.
-fn make_folder<F: SystemFile + Drop, R: System<File = F>>(system: &R, place: &str) -> io::Result<()>
-    ensures made { OnOk result (R.answered (MadeDirectory place.now) system.now) }
-    ensures above { OnOk result (IsSettledAt (λ call. R.answered call system.now) F.answered (directory_above place.now)) }
+fn make_folder<F: SystemFile + Drop, R: System<File = F>>(system: &R, path: &str) -> io::Result<()>
+    ensures made { OnOk result (R.answered (MadeDirectory path.now) system.now) }
+    ensures above { OnOk result (IsSettledAt (λ call. R.answered call system.now) F.answered (directory_above path.now)) }
 {
-    system.make_directory(place)?;
-    settle_at(system, directory_above(place))
+    system.make_directory(path)?;
+    settle_at(system, directory_above(path))
 }
 
 /// Settles each file of these names in the directory.
 fn settle_each<F: SystemFile + Drop, R: System<File = F> + AllocGlobal>(
     system: &R,
-    place: &str,
+    directory: &str,
     names: &[FileName],
 ) -> io::Result<()>
-    ensures { OnOk result (All (λ name. IsSettledAt (λ call. R.answered call system.now) F.answered (path_in place.now name)) names.now) }
+    ensures { OnOk result (All (λ name. IsSettledAt (λ call. R.answered call system.now) F.answered (path_in directory.now name)) names.now) }
 {
     for name in names {
-        let path = path_in(system.alloc(), place, name)?;
+        let path = path_in(system.alloc(), directory, name)?;
         settle_at(system, path.as_str())?;
     }
     Ok(())
@@ -111,17 +111,17 @@ pub(crate) struct Folder<R, F> {
 impl<F: SystemFile + Drop, R: System<File = F> + AllocGlobal + Drop> Folder<R, F> {
     /// Opens a directory, which is made where it isn't there, and settles it, since an earlier process may
     /// have left it unsettled.
-    pub(crate) fn open(system: R, place: &[u8]) -> io::Result<Folder<R, F>>
-        ensures { IfOk result (IsOpenedFolder R.answered F.answered place.now) }
+    pub(crate) fn open(system: R, path: &[u8]) -> io::Result<Folder<R, F>>
+        ensures { IfOk result (IsOpenedFolder R.answered F.answered path.now) }
     {
-        let place = text_of(place)?;
-        make_folder(&system, place)?;
-        let mut directory = system.open_to_settle(place)?;
-        let names = system.list(system.alloc(), place)?;
-        settle_each(&system, place, names.as_slice())?;
+        let path = text_of(path)?;
+        make_folder(&system, path)?;
+        let mut directory = system.open_to_settle(path)?;
+        let names = system.list(system.alloc(), path)?;
+        settle_each(&system, path, names.as_slice())?;
         directory.settle_all()?;
         Ok(Folder {
-            path: String::from_str(system.alloc(), place)?,
+            path: String::from_str(system.alloc(), path)?,
             kept: KeptFiles::new(system.alloc(), directory),
             system,
         })

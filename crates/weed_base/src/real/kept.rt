@@ -1,9 +1,9 @@
 //! The open files of a directory, and what they await of the next sync.
-ghost use Rattle.std.specs.Prelude.{◌≡◌, ◌≢◌, ◌≤◌, ◌<◌, ◌+◌, ◌^◌, ◌⊎◌, ℕ, List, [], length, true, false, IfOk, OnOk};
+ghost use Rattle.std.specs.Prelude.{◌≡◌, ◌≤◌, ◌<◌, ◌+◌, ◌^◌, ◌⊎◌, ℕ, List, [], length, true, false, IfOk, OnOk};
 ghost use Rattle.std.specs.List.{All, AllZip, position};
 ghost use Rattle.std.specs.Str.{bytes_eq};
 ghost use Rattle.weed_base.specs.System.{Wrote, CutTo, SettledAll};
-ghost use Rattle.weed_base.specs.Awaiting.{Covers, Awaiting, StillAwaits, IsNamedAt, IsFileAt, IsOpenAs, OpensNone, FallsByAnswer, AwaitsNothing, without, AreRenamed};
+ghost use Rattle.weed_base.specs.Awaiting.{Covers, Awaiting, StillAwaits, IsNamedAt, IsFileAt, IsOpenAs, OpensNone, FallsByAnswer, AwaitsSomething, AwaitsNothing, without, AreRenamed};
 ghost use Rattle.weed_base.specs.declared.real.kept.Awaits.{Awaits};
 ghost use Rattle.weed_base.specs.declared.real.kept.Awaits.TheVariants.{Nothing, Data, Everything};
 
@@ -140,7 +140,7 @@ impl<F: SystemFile + Drop> KeptFiles<F> {
     fn let_idle_go(&mut self)
         ensures still { StillAwaits self.old.files.items self.new.files.items }
         ensures only { OpensNone self.old.files.items self.new.files.items }
-        ensures few { 64 ≤ length self.old.files.items → All (λ kept. kept.awaits ≢ Nothing) self.new.files.items }
+        ensures few { 64 ≤ length self.old.files.items → All AwaitsSomething self.new.files.items }
         ensures names { self.new.names_await ≡ self.old.names_await }
         ensures directory { self.new.directory ≡ self.old.directory }
     {
@@ -156,6 +156,7 @@ impl<F: SystemFile + Drop> KeptFiles<F> {
         ensures still { StillAwaits self.old.files.items self.new.files.items }
         ensures only { (name : List ℕ) (file : F) → IsOpenAs name file self.new.files.items
             → IsOpenAs name file self.old.files.items ⊎ ((opened.name ≡ name) × (opened.file ≡ file)) }
+        ensures few { 64 ≤ length self.old.files.items → All (λ kept. AwaitsSomething kept ⊎ (kept ≡ opened)) self.new.files.items }
         ensures names { self.new.names_await ≡ self.old.names_await }
         ensures directory { self.new.directory ≡ self.old.directory }
     {

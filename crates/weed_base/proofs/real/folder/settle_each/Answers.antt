@@ -1,7 +1,7 @@
 use Rattle.std.proofs.Common.{ℕ, List, subst, ◌∙◌, inl, inr}
 use Rattle.weed_base.specs.System.{path_in}
 use Rattle.weed_base.specs.Folder.{IsSettledAt}
-use Rattle.weed_base.proofs.AwaitingLemmas.{same_or_other, below_other}
+use Rattle.weed_base.proofs.ListLemmas.{same_or_other, below_other}
 use Rattle.weed_base.proofs.FolderLemmas.{get_or_is}
 use Rattle.weed_base.proofs.real.folder.settle_each.Goals as goal
 
@@ -11,6 +11,6 @@ loop-name-preserved g c = λ k d below.
     elim (same_or_other k c.loop-name.name-index) [
       | inl here ↦
           let first = get_or_is c.args.names.now c.loop-name.name-index k c.name-item.result d c.loop-name-test.true here c.name-item.is in
-          subst (λ name. settled (path_in c.args.place.now name)) first (subst settled (c.as_str.ensures.value ∙ c.in_ok-path.ensures) c.in_ok-settle_at.ensures)
+          subst (λ name. settled (path_in c.args.directory.now name)) first (subst settled (c.as_str.ensures.value ∙ c.in_ok-path.ensures) c.in_ok-settle_at.ensures)
       | inr other ↦ c.loop-name.invariant k d (below_other k c.loop-name.name-index below other)
     ]

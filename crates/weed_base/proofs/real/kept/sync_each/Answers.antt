@@ -1,7 +1,8 @@
 use Rattle.std.proofs.Common.{get_or, ap, arith}
 use Rattle.std.proofs.lemmas.Grind.{common_steps}
 use Rattle.weed_base.specs.Awaiting.{FallsByAnswer}
-use Rattle.weed_base.proofs.AwaitingLemmas.{falls_set, nothing_set, zip_of_places}
+use Rattle.weed_base.proofs.ListLemmas.{zip_of_places}
+use Rattle.weed_base.proofs.AwaitingLemmas.{falls_set, nothing_set}
 use Rattle.weed_base.proofs.real.kept.sync_each.Goals as goal
 
 pub returns-in_err-sync-clause-marks : goal.returns-in_err-sync-clause-marks

@@ -1,7 +1,7 @@
 use Rattle.std.proofs.Common.{◌≡◌, ◌<◌, ◌≤◌, ℕ, get_or}
 use Rattle.weed_base.specs.Awaiting.{FallsByAnswer, AwaitsNothing}
 use Rattle.weed_base.specs.declared.real.kept.KeptFile.{KeptFile}
-use Rattle.weed_base.proofs.AwaitingLemmas.{EachPair}
+use Rattle.weed_base.proofs.ListLemmas.{EachPair}
 use Rattle.weed_base.proofs.real.kept.sync_each.Given as goal
 
 abbrev pub invariant-loop-kept : goal.invariant-loop-kept

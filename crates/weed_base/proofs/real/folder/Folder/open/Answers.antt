@@ -8,7 +8,7 @@ pub returns : goal.returns
 returns g c =
     let answered : PathCall g.row.F.Denot → Type 0 = λ call. g.R.System.answered call c.args.system in
     let settled : List ℕ → Type 0 = λ path. IsSettledAt answered g.F.SystemFile.answered path in
-    let is = c.in_ok-place.ensures in
+    let is = c.in_ok-path.ensures in
     let names = c.in_ok-names.names.items in
     let directory = c.in_ok-directory.directory in
     record {
@@ -16,14 +16,14 @@ returns g c =
       made = subst (λ (path : List ℕ). answered (MadeDirectory path)) is c.in_ok-make_folder.ensures.made;
       above = subst (λ (path : List ℕ). settled (directory_above path)) is c.in_ok-make_folder.ensures.above;
       directory =
-          subst (λ (it : g.row.F.Denot). answered (OpenedToSettle c.args.place.now it)) (sym (c.new.ensures.directory ∙ c.settle_all.ensures.same))
+          subst (λ (it : g.row.F.Denot). answered (OpenedToSettle c.args.path.now it)) (sym (c.new.ensures.directory ∙ c.settle_all.ensures.same))
           (subst (λ (path : List ℕ). answered (OpenedToSettle path directory)) is c.in_ok-directory.ensures);
       names = subst (λ (it : g.row.F.Denot). g.F.SystemFile.answered SettledAll it) (sym (c.new.ensures.directory ∙ c.settle_all.ensures.same)) c.in_ok-settle_all.ensures.settled;
       files = (
         names,
         subst (λ (path : List ℕ). answered (Listed path names)) is c.in_ok-names.ensures,
         subst (λ (path : List ℕ). All (λ name. settled (path_in path name)) names) is
-            (subst (λ (items : List (List ℕ)). All (λ name. settled (path_in c.in_ok-place.place.now name)) items) c.as_slice.ensures.value c.in_ok-settle_each.ensures),
+            (subst (λ (items : List (List ℕ)). All (λ name. settled (path_in c.in_ok-path.path.now name)) items) c.as_slice.ensures.value c.in_ok-settle_each.ensures),
       );
       settled = (rw c.new.ensures.files (λ k d below. absurd (omega (arith, below))), c.new.ensures.names);
     }

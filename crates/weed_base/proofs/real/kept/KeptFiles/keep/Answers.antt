@@ -1,8 +1,10 @@
-use Rattle.std.proofs.Common.{◌≡◌, refl, inl, inr, subst, List}
+use Rattle.std.proofs.Common.{◌≡◌, ◌⊎◌, refl, inl, inr, subst, List}
+use Rattle.std.proofs.lemmas.List.Elements.{All-push}
 use Rattle.std.proofs.lemmas.List.Quantifiers.{Any-push}
-use Rattle.weed_base.specs.Awaiting.{Covers, IsOpenAs}
+use Rattle.weed_base.specs.Awaiting.{Covers, IsOpenAs, AwaitsSomething}
 use Rattle.weed_base.specs.declared.real.kept.KeptFile.{KeptFile}
-use Rattle.weed_base.proofs.AwaitingLemmas.{still_push, covers_same, push_any}
+use Rattle.weed_base.proofs.ListLemmas.{push_any}
+use Rattle.weed_base.proofs.AwaitingLemmas.{still_push, covers_same}
 use Rattle.weed_base.proofs.real.kept.KeptFiles.keep.Goals as goal
 
 pub returns-in_err-push-clause-still : goal.returns-in_err-push-clause-still
@@ -27,3 +29,11 @@ returns-clause-only g c = λ name file found.
       | inl was ↦ inl (c.let_idle_go.ensures.only name file was)
       | inr new ↦ inr new
     ]
+
+pub returns-in_err-push-clause-few : goal.returns-in_err-push-clause-few
+returns-in_err-push-clause-few g c = λ many. rw c.in_err-push.ensures.items (λ k d below. inl (c.let_idle_go.ensures.few many k d below))
+
+pub returns-clause-few : goal.returns-clause-few
+returns-clause-few g c = λ many.
+    let some : KeptFile g.row.F.Denot → Type 0 = λ kept. AwaitsSomething kept ⊎ (kept ≡ c.args.opened) in
+    rw c.in_ok-push.ensures.items (All-push some c.let_idle_go.new.self.files.items c.args.opened (λ k d below. inl (c.let_idle_go.ensures.few many k d below)) (inr refl))

@@ -3,7 +3,8 @@ use Rattle.std.proofs.lemmas.Fn.{filter_same}
 use Rattle.std.proofs.lemmas.List.Elements.{filter_passes}
 use Rattle.weed_base.specs.Awaiting.{IsOpenAs}
 use Rattle.weed_base.specs.declared.real.kept.KeptFile.{KeptFile}
-use Rattle.weed_base.proofs.AwaitingLemmas.{still_awaiting, awaits_something, filter_any, something_awaited}
+use Rattle.weed_base.proofs.ListLemmas.{filter_any}
+use Rattle.weed_base.proofs.AwaitingLemmas.{still_awaiting, awaits_something, something_awaited}
 use Rattle.weed_base.proofs.real.kept.KeptFiles.let_idle_go.Goals as goal
 
 pub returns-then-len-ge-MAX_KEPT-clause-still : goal.returns-then-len-ge-MAX_KEPT-clause-still

@@ -2,7 +2,7 @@ use Rattle.std.proofs.Common.{◌≡◌, map, ap, ◌∙◌, arith}
 use Rattle.std.proofs.lemmas.List.{take_at}
 use Rattle.std.proofs.lemmas.Slice.Zip.{AllZip-map}
 use Rattle.weed_base.specs.Awaiting.{renamed_file}
-use Rattle.weed_base.proofs.AwaitingLemmas.{zip_of_places}
+use Rattle.weed_base.proofs.ListLemmas.{zip_of_places}
 use Rattle.weed_base.proofs.real.kept.KeptFiles.rename.Goals as goal
 
 pub returns-clause-files : goal.returns-clause-files

@@ -2,7 +2,8 @@ use Rattle.std.proofs.Common.{◌≡◌, sym, subst, ap, ◌∙◌, OnOk}
 use Rattle.weed_base.specs.System.{Wrote}
 use Rattle.weed_base.specs.Awaiting.{Covers}
 use Rattle.weed_base.specs.declared.real.kept.Awaits.TheVariants.{Data}
-use Rattle.weed_base.proofs.AwaitingLemmas.{still_set, named_set, set_any}
+use Rattle.weed_base.proofs.ListLemmas.{set_any}
+use Rattle.weed_base.proofs.AwaitingLemmas.{still_set, named_set}
 use Rattle.weed_base.proofs.real.kept.KeptFiles.write_at.Goals as goal
 
 pub returns-clause-marked : goal.returns-clause-marked
