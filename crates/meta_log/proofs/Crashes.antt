@@ -7,8 +7,8 @@ use Rattle.weed_base.specs.Images.{Only, IsTornImage, TearsThere, Tears, LeavesO
 use Rattle.weed_base.proofs.ImageLemmas.{leaves_both, leaves_weaker}
 use Rattle.meta_log.specs.Segment.{IsShort, items}
 use Rattle.meta_log.specs.LogText.{segment_name, NoneFrom, Suits, IsLogText}
-use Rattle.meta_log.specs.Held.{IsHeld, HoldsLog}
-use Rattle.meta_log.specs.Images.{ComesBy, ImagesHold, IsEither}
+use Rattle.meta_log.specs.Held.{IsHeld, HoldsLog, IsEither}
+use Rattle.meta_log.specs.Images.{ComesBy, ImagesHold}
 use Rattle.meta_log.specs.declared.stem.Stem.{Stem}
 use Rattle.meta_log.specs.declared.gate_log.GateLog.{GateLog}
 use Rattle.meta_log.proofs.Made.{none_still}

@@ -6,8 +6,9 @@ use Rattle.weed_base.proofs.ImageLemmas.{leaves_weaker}
 use Rattle.name_core.specs.declared.change.Record.{Record}
 use Rattle.meta_log.specs.LogText.{IsAllowed, IsLogText, HasSegment}
 use Rattle.meta_log.specs.Records.{ReadsAs}
-use Rattle.meta_log.specs.Kept.{IsKept, IsRecordLog, front_of}
-use Rattle.meta_log.specs.Images.{ImagesHold, ImagesKeep, IsEither, IsEitherLog}
+use Rattle.meta_log.specs.Kept.{IsKept, IsRecordLog, front_of, IsEitherLog}
+use Rattle.meta_log.specs.Held.{IsEither}
+use Rattle.meta_log.specs.Images.{ImagesHold, ImagesKeep}
 use Rattle.meta_log.specs.declared.stem.Stem.{Stem}
 use Rattle.meta_log.specs.declared.stem.Stem.TheVariants.{Log}
 use Rattle.meta_log.specs.declared.front.Front.{Front}

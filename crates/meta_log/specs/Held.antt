@@ -37,7 +37,10 @@ pub record IsOpened (stem : Stem) (old new : Option Files) (log : GateLog) : Typ
   pub text : IfSome old (λ files. (payloads : List (List ℕ)) × IsLogText stem files payloads)
   pub holds : (payloads : List (List ℕ)) → HoldsText stem old payloads → HoldsLog new log payloads
 
--- The disk, where told, is a log text for the list or for it with one payload more.
+-- The files are a log text for the list or for it with one payload more.
+abbrev pub IsEither : Stem → List (List ℕ) → List ℕ → Files → Type 0
+IsEither stem payloads payload files = IsLogText stem files payloads ⊎ IsLogText stem files (payloads ++ payload ∷ [])
+
+-- The disk, where told, is so.
 abbrev pub HoldsEither : Stem → Option Files → List (List ℕ) → List ℕ → Type 0
-HoldsEither stem told payloads payload =
-    IfSome told (λ files. IsLogText stem files payloads ⊎ IsLogText stem files (payloads ++ payload ∷ []))
+HoldsEither stem told payloads payload = IfSome told (IsEither stem payloads payload)

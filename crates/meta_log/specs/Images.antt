@@ -26,14 +26,6 @@ pub record ImagesKeep (images : Files → Type 0) (records : List Record) : Type
   pub read : ReadAs payloads records
   pub times : TimesRise 0 records
 
--- The image is a log text for the list or for it with one payload more.
-abbrev pub IsEither : Stem → List (List ℕ) → List ℕ → Files → Type 0
-IsEither stem payloads payload image = IsLogText stem image payloads ⊎ IsLogText stem image (payloads ++ payload ∷ [])
-
--- The image is a log of the records or of them with one record more.
-abbrev pub IsEitherLog : List Record → Record → Files → Type 0
-IsEitherLog records known image = IsRecordLog image records ⊎ IsRecordLog image (records ++ known ∷ [])
-
 -- The image is as it was, or no segment counted and the first is made or is being made.
 abbrev pub IsMadeFrom : Stem → Files → Files → Type 0
 IsMadeFrom stem before image = (image ≡ before) ⊎ (NoneFrom stem 1 before × IsFreshOrEmpty stem image)

@@ -51,10 +51,13 @@ pub record IsOpenedFrom (old new : Option Files) (meta : MetaLog) : Type 0 where
   pub text : IfSome old (λ files. (records : List Record) × IsRecordLog files records)
   pub holds : (records : List Record) → HoldsRecordLog old records → HoldsRecords new meta records
 
--- The disk, where told, is a log of the records or of them with one record more.
+-- The files are a log of the records or of them with one record more.
+abbrev pub IsEitherLog : List Record → Record → Files → Type 0
+IsEitherLog records more files = IsRecordLog files records ⊎ IsRecordLog files (records ++ more ∷ [])
+
+-- The disk, where told, is so.
 abbrev pub HoldsEitherLog : Option Files → List Record → Record → Type 0
-HoldsEitherLog told records more =
-    IfSome told (λ files. IsRecordLog files records ⊎ IsRecordLog files (records ++ more ∷ []))
+HoldsEitherLog told records more = IfSome told (IsEitherLog records more)
 
 -- These are texts of the log's records past a time: at most so many, and no more once they reach 67,108,864 bytes.
 abbrev pub IsPast : Option Files → MetaLog → ℕ → ℕ → List (List ℕ) → Type 0

@@ -17,7 +17,7 @@ among_items Closed = Broken
 among_items Broken = Broken
 among_items (Item size) = Item size
 
--- What is met of them.
+-- The head that is met where these are left: closed where there is none, and else the first one's item.
 abbrev pub MeetsNext : List (List ℕ) → Head → Type 0
 MeetsNext left Closed = left ≡ []
 MeetsNext left Broken = ⊥

@@ -1,4 +1,4 @@
-/// How many records a log has, and the time of the last; 0 where there is none.
+/// How many records a log has, and the time of the last, in nanoseconds since 1970; 0 where there is none.
 #[derive(Clone, Copy, Debug, PartialEq, Eq)]
 pub struct Front {
     pub count: u64,

@@ -26,12 +26,13 @@ pub struct GateLog {
 }
 
 impl GateLog {
-    ghost use Rattle.meta_log.specs.Held.{Holds, HoldsLog, HoldsText, HoldsEither, IsHeld, IsOpened, stem_of, gate_of};
-    ghost use Rattle.meta_log.specs.Images.{ComesBy, ImagesHold, IsEither, IsMadeFrom, HasListOf};
+    ghost use Rattle.meta_log.specs.Held.{Holds, HoldsLog, HoldsText, HoldsEither, IsHeld, IsOpened, stem_of, gate_of, IsEither};
+    ghost use Rattle.meta_log.specs.Images.{ComesBy, ImagesHold, IsMadeFrom, HasListOf};
     ghost use Rattle.meta_log.specs.Faults.{IfDamaged};
     ghost use Rattle.meta_log.specs.Places.{place_behind, HoldsPlace, IsNext};
 
-    /// Opens the log of a disk, and makes its first segment where none counts. Syncs first.
+    /// Opens the log of a disk, and makes its first segment where none counts. Syncs first. Where the files are no
+    /// log, `Damaged` names the first file and place to blame, and nothing is changed.
     pub fn open<D: Disk>(alloc: Global, disk: &mut D, stem: Stem) -> Result<GateLog, LogFault>
         requires { MayKeep D.MARKS_ONLY stem }
         ensures held { IfOk result (Holds (D.files disk.new)) }
@@ -130,7 +131,6 @@ impl GateLog {
         let texts = collect(
             alloc,
             disk,
-            self.stem,
             &name,
             self.gate,
             &mut reading,

@@ -14,7 +14,6 @@ use crate::fault::LogFault;
 use crate::head::Head;
 use crate::reading::Reading;
 use crate::scan::{AHEAD, next_head};
-use crate::stem::{Stem, first_segment};
 use std::alloc::Global;
 use weed_base::{Disk, FileName, LogText};
 
@@ -57,7 +56,6 @@ pub fn left_head<D: Disk>(
 fn take_text<D: Disk>(
     alloc: Global,
     disk: &mut D,
-    stem: Stem,
     name: &FileName,
     gate: u64,
     reading: &mut Reading,
@@ -78,7 +76,7 @@ fn take_text<D: Disk>(
     match left_head(disk, name, gate, reading)? {
         Head::Closed => Ok(None),
         Head::Broken => Err(LogFault::Damaged {
-            file: first_segment(stem),
+            file: name.copy(),
             at: reading.at(),
         }),
         Head::Item(size) => {
@@ -93,7 +91,6 @@ fn take_text<D: Disk>(
 pub fn collect<D: Disk>(
     alloc: Global,
     disk: &mut D,
-    stem: Stem,
     name: &FileName,
     gate: u64,
     reading: &mut Reading,
@@ -114,7 +111,7 @@ pub fn collect<D: Disk>(
     let mut texts = Vec::new(alloc);
     let mut bytes = 0;
     'taking: while texts.len() < room as usize && bytes < most {
-        let Some(text) = take_text(alloc, disk, stem, name, gate, reading)? else {
+        let Some(text) = take_text(alloc, disk, name, gate, reading)? else {
             break;
         };
         bytes += text.as_slice().len() as u64;

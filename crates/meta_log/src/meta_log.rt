@@ -38,12 +38,13 @@ pub struct MetaLog {
 
 impl MetaLog {
     ghost use Rattle.meta_log.specs.Faults.{IfDamaged};
-    ghost use Rattle.meta_log.specs.Kept.{front_of, IsRecordLog, HoldsRecordLog, Keeps, HoldsRecords, HoldsEitherLog, IsOpenedFrom, IsKept, IsRecordDamage, IsPast};
-    ghost use Rattle.meta_log.specs.Images.{ComesBy, ImagesKeep, IsEitherLog, IsMadeFrom, HasLogOf, IsOwn};
+    ghost use Rattle.meta_log.specs.Kept.{front_of, IsRecordLog, HoldsRecordLog, Keeps, HoldsRecords, HoldsEitherLog, IsOpenedFrom, IsKept, IsRecordDamage, IsPast, IsEitherLog};
+    ghost use Rattle.meta_log.specs.Images.{ComesBy, ImagesKeep, IsMadeFrom, HasLogOf, IsOwn};
     ghost use Rattle.meta_log.specs.Places.{place_behind};
     ghost use Rattle.meta_log.specs.RecordPlaces.{KeepsPlace, AreNext};
 
-    /// Opens the log of records of a disk, and makes its first segment where none counts. Syncs first.
+    /// Opens the log of records of a disk, and makes its first segment where none counts. Syncs first. Where the
+    /// files are no log of records, `Damaged` names the first file and place to blame, and nothing is changed.
     pub fn open<D: Disk>(alloc: Global, disk: &mut D) -> Result<MetaLog, LogFault>
         requires { D.MARKS_ONLY ≡ false }
         ensures held { IfOk result (Keeps (D.files disk.new)) }
@@ -127,7 +128,7 @@ impl MetaLog {
     }
 
     /// The texts of the first records past a time: at most `room`, and no more once they reach
-    /// 67,108,864 bytes.
+    /// 67,108,864 bytes. `Damaged` comes only over a disk that tells no files.
     pub fn read_after<D: Disk>(
         &self,
         alloc: Global,
@@ -150,7 +151,6 @@ impl MetaLog {
         let texts = collect(
             alloc,
             disk,
-            Stem::Log,
             &name,
             self.log.gate,
             &mut reading,
@@ -168,7 +168,7 @@ impl MetaLog {
     }
 
     /// The texts of the next records from a place on, and the place behind them: at most `room`, however
-    /// many bytes they have.
+    /// many bytes they have. `Damaged` comes only over a disk that tells no files.
     pub fn read_from<D: Disk>(
         &self,
         alloc: Global,

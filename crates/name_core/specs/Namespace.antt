@@ -22,7 +22,7 @@ path_of (Drop path) = path
 abbrev pub AreRootless : List Change → Type 0
 AreRootless changes = All (λ change. path_of change ≢ []) changes
 
--- Whether a path is another one or below it.
+-- Whether the second path is the first one, or below it.
 abbrev pub is_within : List (List ℕ) → List (List ℕ) → Bool
 is_within top path = starts_with bytes_eq path top
 

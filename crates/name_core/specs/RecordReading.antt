@@ -63,7 +63,7 @@ event_at text = do
 
 -- ---- What they mean, where they mean anything
 
--- The values that fit their types and keep to an entry's limits.
+-- The values fit their types and keep to an entry's limits.
 abbrev pub are_good : AttributesText → Bool
 are_good a =
     nat_lt a.mode (2 ^ 32) && nat_lt a.uid (2 ^ 32) && nat_lt a.gid (2 ^ 32) && nat_lt a.ttl_sec (2 ^ 32)
@@ -73,7 +73,7 @@ are_good a =
 abbrev pub kind_of : ℕ → Kind
 kind_of is_directory = if is_directory == 0 then File else Directory
 
--- Until files are read, an entry with a chunk means nothing.
+-- The parts mean an entry: their values are good, and, until files are read, there is no chunk.
 abbrev pub is_entry : EntryParts → Bool
 is_entry entry = not entry.fields.has_chunks && are_good entry.attributes
 
@@ -95,7 +95,7 @@ attributes_of a = record {
 abbrev pub entry_of : EntryParts → Entry
 entry_of entry = record { kind = kind_of entry.fields.is_directory; attributes = attributes_of entry.attributes }
 
--- A text that is read as a path, and a path with a name as one part more.
+-- The path that a text is read as, where it is one.
 abbrev pub path_read : List ℕ → Option (List (List ℕ))
 path_read text = if is_none (read_fault text) then Some (parts_in text) else None
 
@@ -107,7 +107,7 @@ path_with name top = if is_none (join_fault top name) then Some (top ++ name ∷
 abbrev pub path_in : List ℕ → List ℕ → Option (List (List ℕ))
 path_in directory name = option_and_then (path_with name) (path_read directory)
 
--- A Put of a directory; until files are read, there is no Put of one.
+-- A Put of a directory; until files are read, there is no Put of a file.
 abbrev pub directory_put : List ℕ → EntryParts → Option Change
 directory_put directory entry =
     if is_entry entry && not (entry.fields.is_directory == 0) then

@@ -32,11 +32,11 @@ abbrev pub entry_text : List ℕ → Entry → List ℕ
 entry_text name entry =
     bytes_field 1 name ++ varint_field 2 (directory_bit entry.kind) ++ message_field 4 (attributes_text entry.attributes)
 
--- The parent of a path, and its last part.
+-- The directory that a path stands in, for the root itself.
 abbrev pub directory_of : List (List ℕ) → List (List ℕ)
 directory_of path = unwrap_or (parent_of path) []
 
--- The last part of a path, empty of the root.
+-- The last part of a path, empty for the root.
 abbrev pub name_of : List (List ℕ) → List ℕ
 name_of path = unwrap_or (last_or None path) []
 

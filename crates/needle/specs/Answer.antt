@@ -9,13 +9,13 @@ use Rattle.needle.specs.declared.item.ReadItem.{ReadItem}
 use Rattle.needle.specs.declared.version.Version.{Version}
 use Rattle.needle.specs.declared.version.Version.TheVariants.{V2, V3}
 use Rattle.needle.specs.Crc.{checksum}
-use Rattle.needle.specs.Fields.{size_in, counted_in, checksum_in, IsTruncated}
+use Rattle.needle.specs.Fields.{size_in, counted_in, checksum_in, IsWhole, IsTruncated}
 use Rattle.needle.specs.Item.{Marks, IsNeedle, counted, content, body_of, item_front, padding_len}
 use Rattle.needle.specs.Layout.{padded}
 
 -- ---- what is read
 
--- What fits its item.
+-- An item whose values fit the text.
 abbrev pub IsItem : Item → Type 0
 IsItem (Live needle) = IsNeedle needle
 IsItem (Gone cookie key) = (cookie < 2 ^ 32) × (key < 2 ^ 64)
@@ -41,10 +41,6 @@ pub record BeginsWith (version : Version) (text : List ℕ) (read : ReadItem) : 
   pub taken : read.taken ≡ length (item_front read.item version read.moment) + length padding
 
 -- ---- what is refused
-
--- The text doesn't end inside the item, whose padding belongs to it.
-abbrev pub IsWhole : Version → List ℕ → Type 0
-IsWhole version text = padded version (size_in text) ≤ length text
 
 -- The item is whole, and its size counts the parts of a needle with these marks, of any cookie and key.
 pub record Says (version : Version) (text : List ℕ) (marks : Marks) (needle : Needle) : Type 0 where

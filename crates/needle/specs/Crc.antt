@@ -1,5 +1,5 @@
--- CRC-32C (Castagnoli), bit by bit, as RFC 3720, appendix B.4, and RFC 9260 define it: the lowest bit of each
--- byte first.
+-- CRC-32C (Castagnoli), bit by bit, as RFC 3720, section 12.1, and RFC 9260, appendix A, define it: the lowest
+-- bit of each byte first.
 use Rattle.std.specs.Prelude.{◌≡◌, ℕ, zero, suc, ◌+◌, ◌*◌, ◌/◌, ◌%◌, List, [], ◌<◌, bit_xor, ◌==◌, if◌then◌else◌, fold, slice_index, slice_index_or}
 
 -- The polynomial, its bits in reverse order.

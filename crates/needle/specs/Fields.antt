@@ -1,5 +1,5 @@
 -- What the bytes of an item say, each field at its place. Bytes that aren't there count as 0.
-use Rattle.std.specs.Prelude.{ℕ, ◌+◌, ◌<◌, List, take, drop, length}
+use Rattle.std.specs.Prelude.{ℕ, ◌+◌, ◌<◌, ◌≤◌, List, take, drop, length}
 use Rattle.std.specs.Int.{w32, w64, from_be_bytes}
 use Rattle.needle.specs.declared.version.Version.{Version}
 use Rattle.needle.specs.declared.version.Version.TheVariants.{V2, V3}
@@ -29,6 +29,10 @@ checksum_in text = four_at (16 + size_in text) text
 abbrev pub moment_in : Version → List ℕ → ℕ
 moment_in V2 text = 0
 moment_in V3 text = eight_at (20 + size_in text) text
+
+-- The text doesn't end inside the item, whose padding belongs to it.
+abbrev pub IsWhole : Version → List ℕ → Type 0
+IsWhole version text = padded version (size_in text) ≤ length text
 
 -- The bytes end inside the item, its padding included.
 abbrev pub IsTruncated : Version → List ℕ → Type 0

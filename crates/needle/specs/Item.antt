@@ -103,7 +103,7 @@ item_text item version moment =
 
 -- ---- what can be written
 
--- What fits its part of the text.
+-- A needle whose values fit their parts of the text.
 pub record IsNeedle (needle : Needle) : Type 0 where
   pub cookie : needle.cookie < 2 ^ 32
   pub key : needle.key < 2 ^ 64

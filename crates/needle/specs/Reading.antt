@@ -152,7 +152,7 @@ Gives (Err fault) read = read ≡ Err fault
 
 -- The fields that were read.
 pub record IsFrame (version : Version) (text : List ℕ) (frame : Frame) : Type 0 where
-  pub whole : padded version (size_in text) ≤ length text
+  pub whole : IsWhole version text
   pub cookie : frame.cookie ≡ four_at 0 text
   pub key : frame.key ≡ eight_at 4 text
   pub counted : frame.counted.now ≡ counted_in text

@@ -89,6 +89,7 @@ pub fn crc32c(bytes: &[u8]) -> u32
 mod tests {
     use super::*;
 
+    /// Those of 32 bytes are examples of RFC 3720, appendix B.4.
     #[test]
     fn published_vectors_agree(rt: HostRuntime) {
         assert_eq!(rt; crc32c(b"123456789"), 0xe306_9283);

@@ -1,6 +1,21 @@
 ghost use Rattle.std.specs.Prelude.{◌≡◌, option_map, option_copied};
 ghost use Rattle.needle.specs.Reading.{short_at, long_at, five_at, bytes_at, body_at, has_flag, part_at, parts_at, contents_at, contents_of};
 
+/// The flag of a name.
+pub(crate) const NAME: u8 = 0x02;
+
+/// The flag of a media type.
+pub(crate) const MIME: u8 = 0x04;
+
+/// The flag of a time of change.
+pub(crate) const MODIFIED: u8 = 0x08;
+
+/// The flag of a time to live.
+pub(crate) const TTL: u8 = 0x10;
+
+/// The flag of pairs.
+pub(crate) const PAIRS: u8 = 0x20;
+
 /// What the size counts of a needle, where it lies.
 #[derive(Clone, Copy)]
 pub(crate) struct Parts<'a> {
@@ -118,11 +133,11 @@ pub(crate) fn has(flags: u8, flag: u8) -> bool
 fn flagged_parts<'a>(body: &'a [u8], flags: u8, bytes: &'a [u8]) -> Option<(Parts<'a>, &'a [u8])>
     ensures { option_map (λ x. (contents_of x.0, x.1.now)) result ≡ parts_at body.now flags bytes.now }
 {
-    let (name, rest) = short_part(has(flags, 0x02), bytes)?;
-    let (mime, rest) = short_part(has(flags, 0x04), rest)?;
-    let (modified, rest) = five_part(has(flags, 0x08), rest)?;
-    let (ttl, rest) = two_part(has(flags, 0x10), rest)?;
-    let (pairs, rest) = long_part(has(flags, 0x20), rest)?;
+    let (name, rest) = short_part(has(flags, NAME), bytes)?;
+    let (mime, rest) = short_part(has(flags, MIME), rest)?;
+    let (modified, rest) = five_part(has(flags, MODIFIED), rest)?;
+    let (ttl, rest) = two_part(has(flags, TTL), rest)?;
+    let (pairs, rest) = long_part(has(flags, PAIRS), rest)?;
     let parts = Parts {
         body,
         flags,

@@ -11,10 +11,13 @@ use crate::version::Version;
 use std::alloc::{AllocError, Global};
 use weed_base::Bytes;
 
+/// The flag of data that is compressed.
 const COMPRESSED: u8 = 0x01;
 
+/// The flag that has no meaning yet.
 const RESERVED: u8 = 0x40;
 
+/// The flag of data that lists the chunks of a file.
 const MANIFEST: u8 = 0x80;
 
 /// Refuses flags that tell of no part.

@@ -6,6 +6,7 @@ ghost use Rattle.needle.specs.Item.{IsNeedle, IsWithinLimits, IsWritable, counte
 
 use crate::crc::crc32c;
 use crate::item::{Item, Needle};
+use crate::parts::{MIME, MODIFIED, NAME, PAIRS, TTL};
 use crate::version::{Version, padded_len};
 use std::alloc::{AllocError, Global};
 use weed_base::Bytes;
@@ -59,11 +60,11 @@ fn put_ttl(out: &mut Vec<u8>, ttl: Option<[u8; 2]>) -> Result<(), AllocError>
 fn flags_of(needle: &Needle) -> u8
     ensures { result ≡ flags unmarked needle.now }
 {
-    u8::from(needle.name.is_some()) * 0x02
-        + u8::from(needle.mime.is_some()) * 0x04
-        + u8::from(needle.modified.is_some()) * 0x08
-        + u8::from(needle.ttl.is_some()) * 0x10
-        + u8::from(needle.pairs.is_some()) * 0x20
+    u8::from(needle.name.is_some()) * NAME
+        + u8::from(needle.mime.is_some()) * MIME
+        + u8::from(needle.modified.is_some()) * MODIFIED
+        + u8::from(needle.ttl.is_some()) * TTL
+        + u8::from(needle.pairs.is_some()) * PAIRS
 }
 
 fn short_len(bytes: &Option<Bytes>) -> usize
@@ -208,7 +209,7 @@ fn put_front(
 }
 
 impl Needle {
-    /// The text of the item, which has the moment from version 3 on.
+    /// The text of the item, padded with zeros; `moment`, in nanoseconds since 1970, stands in it from version 3 on.
     pub fn write(
         alloc: Global,
         item: &Item,

@@ -8,7 +8,7 @@ use Rattle.needle.specs.declared.version.Version.{Version}
 use Rattle.needle_index.specs.Index.{Spots}
 use Rattle.needle_index.specs.declared.spot.Spot.{Spot}
 
--- The padded length of a needle, if there is one.
+-- The padded length of a needle, 0 where there is none.
 abbrev pub padded_in : Version → Option Spot → ℕ
 padded_in version spot = option_map_or (λ s. padded version s.size) spot 0
 

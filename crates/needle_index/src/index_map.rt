@@ -47,7 +47,8 @@ impl IndexMap {
         }
     }
 
-    /// The map that the entries of a text leave, one after another.
+    /// The map that the entries of a text leave, one after another. `Ragged` comes exactly where its length is no
+    /// multiple of 16.
     #[tactic(auto, unfolding(crate::specs::Text::spots_of))]
     pub fn load(alloc: Global, text: &[u8]) -> Result<IndexMap, IndexFault>
         ensures loaded { IfOk result (λ map. map.spots ≡ spots_of text.now) }
@@ -90,7 +91,7 @@ impl IndexMap {
         self.slots.get(key)
     }
 
-    /// Takes the memory for so many puts.
+    /// Takes the memory for so many puts. The map stays, whatever the answer.
     pub fn reserve(&mut self, puts: u64) -> Result<(), AllocError>
         ensures spots { self.new.spots ≡ self.old.spots }
         ensures ok { OnOk result (puts ≤ self.new.spare) }
@@ -99,7 +100,8 @@ impl IndexMap {
         self.slots.reserve(puts as usize)
     }
 
-    /// Gives the key this spot, and answers its former one. Where `spare` is above 0 it takes no memory.
+    /// Gives the key this spot, and answers its former one. Where `spare` is above 0 it takes no memory. An `Err`
+    /// changes no spot.
     pub fn put(&mut self, key: u64, spot: Spot) -> Result<Option<Spot>, AllocError>
         ensures former { IfOk result (λ former. former ≡ get self.old.spots key) }
         ensures ok { OnOk result (self.new.spots ≡ insert self.old.spots key spot) }

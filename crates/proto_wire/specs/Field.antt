@@ -7,7 +7,9 @@ use Rattle.proto_wire.specs.declared.fault.WireFault.TheVariants.{Truncated, Bad
 use Rattle.proto_wire.specs.declared.field.Field.{Field}
 use Rattle.proto_wire.specs.declared.field.Value.{Value}
 use Rattle.proto_wire.specs.declared.field.Value.TheVariants as values
+use Rattle.proto_wire.specs.declared.wire_type.WireType.TheVariants as types
 use Rattle.proto_wire.specs.Text.{IsFieldNumber}
+use Rattle.proto_wire.specs.WireType.{code_of}
 
 -- A value without where it lies in memory.
 pub data ValueText : Type 0 where
@@ -49,10 +51,10 @@ pub record IsVarint (bytes : List ℕ) (n : ℕ) : Type 0 where
 
 -- The wire type of a value, by its number.
 abbrev pub kind_of : ValueText → ℕ
-kind_of (Varint n) = 0
-kind_of (Fixed64 n) = 1
-kind_of (Bytes bytes) = 2
-kind_of (Fixed32 n) = 5
+kind_of (Varint n) = code_of types.Varint
+kind_of (Fixed64 n) = code_of types.Fixed64
+kind_of (Bytes bytes) = code_of types.Bytes
+kind_of (Fixed32 n) = code_of types.Fixed32
 
 -- A length, and that many bytes.
 pub record IsLengthAndBytes (text bytes : List ℕ) : Type 0 where
@@ -106,7 +108,7 @@ bytes_at bytes = do
   n ← varint_at bytes
   if nat_lt (length n.1) n.0 then Err Truncated else Ok (take n.0 n.1, drop n.0 n.1)
 
--- The value of a wire type.
+-- The value at the front, by the number of its wire type; 3, 4, 6 and 7 are refused.
 unfoldable pub value_at : ℕ → List ℕ → Result (ValueText × List ℕ) WireFault
 value_at kind bytes =
     if kind == 0 then (varint_at bytes >>= λ n. Ok (Varint n.0, n.1))
@@ -115,7 +117,7 @@ value_at kind bytes =
     else if kind == 5 then (fixed_at w32 bytes >>= λ n. Ok (Fixed32 n.0, n.1))
     else Err BadWireType
 
--- A tag's number is looked at before its wire type.
+-- The field at the front: its tag and its value. The tag's number is looked at before its wire type.
 unfoldable pub field_at : List ℕ → Result (FieldText × List ℕ) WireFault
 field_at bytes = do
   tag ← varint_at bytes

@@ -61,7 +61,7 @@ abbrev pub HasFault : Result (List ℕ) WireFault → WireFault → Type 0
 HasFault (Err met) fault = met ≡ fault
 HasFault (Ok bytes) fault = (0 < length bytes) × IsRefused fault bytes
 
--- What is left are bytes.
+-- What is left are bytes, each below 256.
 abbrev pub AreBytes : Result (List ℕ) WireFault → Type 0
 AreBytes (Err fault) = Unit {0}
 AreBytes (Ok bytes) = (i : ℕ) → slice_index bytes i < 256

@@ -17,7 +17,7 @@ use Rattle.name_core.specs.declared.entry.Entry.{Entry}
 use Rattle.name_core.specs.declared.change.Change.TheVariants.{Put, Drop}
 use Rattle.name_core.specs.Namespace.{Namespace, step, is_within}
 use Rattle.name_core.specs.Entry.{IsValid}
-use Rattle.weed.specs.KeptNames.{IsKept, AreKept}
+use Rattle.weed.specs.KeptNames.{MayBeMade, AreKept}
 use Rattle.name_core.proofs.Paths.{same_path, same_path-refl, same_path-exact, get-insert_same, get-insert_other, path_cmp_total, path_cmp-IsAntisymmetric, cases_path}
 
 -- A path is within a top where the top is its front.
@@ -129,13 +129,13 @@ none_kept entries none = record {
 some_same : (a b : Entry) → Some a ≡ Some b → a ≡ b
 some_same a b e = cc
 
-pub put_keeps : (at : List (List ℕ)) (entry : Entry) (names : Namespace) → IsKept (Put at entry) → AreKept names → AreKept (step (Put at entry) names)
+pub put_keeps : (at : List (List ℕ)) (entry : Entry) (names : Namespace) → MayBeMade (Put at entry) → AreKept names → AreKept (step (Put at entry) names)
 put_keeps at entry names kept had = record {
   each = λ path found there.
       elim (cases_path path at) [
         | inl same ↦
             let is : Some entry ≡ Some found = sym (put_says at path entry same names) ∙ there in
-            ((λ root. kept.rootless (sym same ∙ root)), subst IsValid (some_same entry found is) (kept.valid at entry refl))
+            ((λ root. kept.rootless (sym same ∙ root)), subst IsValid (some_same entry found is) (kept.valid))
         | inr other ↦ had.each path found (sym (put_is_silent at path entry other.1 names) ∙ there)
       ];
 }

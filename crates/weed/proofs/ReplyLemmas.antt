@@ -12,10 +12,11 @@ use Rattle.name_core.specs.declared.change.Record.{Record}
 use Rattle.name_core.specs.declared.command.Command.TheVariants.{MakeDir}
 use Rattle.name_core.specs.declared.command.Refusal.{Refusal}
 use Rattle.name_core.specs.Log.{fold, last_time}
+use Rattle.name_core.specs.RecordText.{name_of}
 use Rattle.name_core.specs.Plan.{Planned, Recorded, Nothing, Refused, plan_of}
 use Rattle.weed.specs.Answer.{created_text, refused_text}
 use Rattle.weed.specs.Filer.{IsFiled, TellsFiler, TellsEither, Makes, MakesImages, IsAccepted, added_by}
-use Rattle.weed.specs.Reply.{Answering, IsReply, planned_reply, reply_to, bad_path, path_text, moments_after, last_part, refusal_text}
+use Rattle.weed.specs.Reply.{Answering, IsReply, planned_reply, reply_to, bad_path, path_text, moments_after, refusal_text}
 use Rattle.weed.specs.Replied.{IsReadied, RepliesFault, GivesSuch, GivesFor, Gives}
 use Rattle.weed.specs.declared.answer.Status.TheVariants.{Conflict}
 use Rattle.weed.specs.declared.plain_filer.PlainFiler.{PlainFiler}
@@ -57,7 +58,7 @@ ImagesTold old filer path moment Moves Tears result =
 
 accepted_says : (plan : Planned) (path : List (List ℕ)) (records : List Record) (moments : List ℕ) (new : Option Files) (later : Option (List ℕ)) (filer : PlainFiler) (reply : Reply) (Moves : List Record → Type 0)
     → IsAccepted plan → TellsFiler new filer (records ++ added_by plan)
-    → reply.answer ≡ created_text (last_part path) → reply.closes ≡ false → later ≡ Some (later_moments moments) → Moves (records ++ added_by plan)
+    → reply.answer ≡ created_text (name_of path) → reply.closes ≡ false → later ≡ Some (later_moments moments) → Moves (records ++ added_by plan)
     → IsReadied reply (planned_reply path plan) × TellsFiler new filer (records ++ (planned_reply path plan).added) × (later ≡ Some (moments_after (planned_reply path plan) moments))
     × Moves (records ++ (planned_reply path plan).added)
 accepted_says (Recorded made) path records moments new later filer reply Moves accepted told answer closes left moves = (record { answer = answer; closes = closes }, told, left, moves)
@@ -66,7 +67,7 @@ accepted_says (Refused refusal) path records moments new later filer reply Moves
 
 pub gives_made : (old new : Option Files) (clock later : Option (List ℕ)) (filer filer' : PlainFiler) (path : List (List ℕ)) (moment : ℕ) (done : Unit {0}) (reply : Reply) (Moves Tears : List Record → List Record → Type 0)
     → MakesTold old new filer filer' path moment (Ok done) → ImagesTold old filer path moment Moves Tears (Ok done) → Asked clock later moment
-    → reply.answer ≡ created_text (last_part path) → reply.closes ≡ false
+    → reply.answer ≡ created_text (name_of path) → reply.closes ≡ false
     → (files : Files) (moments : List ℕ) (records : List Record) → old ≡ Some files → clock ≡ Some moments → IsFiled files filer records
     → GivesFor path records moments (Moves records) (Tears records) new later filer' (Ok reply)
 gives_made old new clock later filer filer' path moment done reply Moves Tears made images asked answer closes files moments records told coming filed =

@@ -4,7 +4,8 @@ use Rattle.weed_base.specs.Files.{Files}
 use Rattle.weed_base.specs.Images.{NoMore, LeavesOnly, StandsStill}
 use Rattle.weed_base.proofs.ImageLemmas.{leaves_both, leaves_nothing, leaves_still}
 use Rattle.name_core.specs.declared.change.Record.{Record}
-use Rattle.meta_log.specs.Images.{ImagesKeep, IsEitherLog}
+use Rattle.meta_log.specs.Kept.{IsEitherLog}
+use Rattle.meta_log.specs.Images.{ImagesKeep}
 use Rattle.weed.specs.Settling.{IsOneOf, Settling, Tearing}
 
 -- Fewer images keep what more of them keep.

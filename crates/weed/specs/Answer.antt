@@ -1,5 +1,5 @@
 -- The text of an answer, by RFC 9112: a status line and header lines, each ended by CR LF, an empty line, and
--- the body, which is JSON here.
+-- the body, which is JSON here (RFC 8259).
 use Rattle.std.specs.Prelude.{ℕ, Bool, false, List, [], ◌∷◌, ◌++◌, length, codes, decimal, if◌then◌else◌}
 use Rattle.std.specs.List.{flat_map}
 use Rattle.serde_json.specs.Data.{string, object, member, no_members}
@@ -16,7 +16,7 @@ code_of InternalServerError = 500
 code_of NotImplemented = 501
 code_of ServiceUnavailable = 503
 
--- Its words.
+-- Its reason phrase, as RFC 9110, section 15, has it.
 abbrev pub reason_of : Status → List ℕ
 reason_of Created = codes "Created"
 reason_of BadRequest = codes "Bad Request"

@@ -7,6 +7,7 @@ use Rattle.name_core.specs.Plan.{Planned, Recorded, Nothing, Refused}
 use Rattle.meta_log.specs.Kept.{IsKept, IsRecordLog}
 use Rattle.meta_log.specs.declared.meta_log.MetaLog.{MetaLog}
 use Rattle.weed.specs.NameTable.{names_of}
+use Rattle.weed.specs.Settling.{IsOneOf}
 use Rattle.weed.specs.declared.plain_filer.PlainFiler.{PlainFiler}
 use Rattle.weed.specs.declared.plain_filer.MakeFault.{MakeFault}
 use Rattle.weed.specs.declared.plain_filer.MakeFault.TheVariants as fault
@@ -35,7 +36,7 @@ pub record IsFiledFrom (files : Files) (told : Option Files) (filer : PlainFiler
 
 -- The disk is told, and is a log of the records or of them with more behind.
 abbrev pub TellsEither : Option Files → List Record → List Record → Type 0
-TellsEither told records more = IsSomeAnd told (λ files. IsRecordLog files records ⊎ IsRecordLog files (records ++ more))
+TellsEither told records more = IsSomeAnd told (IsOneOf records (records ++ more))
 
 -- The records that a plan adds.
 abbrev pub added_by : Planned → List Record

@@ -16,7 +16,7 @@ pub record InboxState : Type 0 where
 abbrev pub left_of : List ℕ → Option (List ℕ) → Option (List ℕ)
 left_of pending left = option_map (λ bytes. pending ++ bytes) left
 
--- Something, which no request begins.
+-- Some bytes, of which no front is a request.
 abbrev pub IsNoRequest : List ℕ → Type 0
 IsNoRequest bytes = (bytes ≢ []) × (¬ BeginsWithRequest bytes)
 

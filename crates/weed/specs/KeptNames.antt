@@ -2,16 +2,16 @@
 use Rattle.std.specs.Prelude.{◌≡◌, ◌≢◌, ℕ, List, [], Some}
 use Rattle.std.specs.FinMap.{get}
 use Rattle.name_core.specs.declared.change.Change.{Change}
-use Rattle.name_core.specs.declared.change.Change.TheVariants.{Put}
 use Rattle.name_core.specs.declared.entry.Entry.{Entry}
 use Rattle.name_core.specs.Entry.{IsValid}
 use Rattle.name_core.specs.Namespace.{Namespace, path_of}
+use Rattle.name_core.specs.RecordText.{HasValidEntry}
 
 -- No name is the root's, and each entry is valid.
 pub record AreKept (names : Namespace) : Type 0 where
   pub each : (path : List (List ℕ)) (entry : Entry) → get names path ≡ Some entry → (path ≢ []) × IsValid entry
 
 -- A change isn't of the root, and what it puts is valid.
-pub record IsKept (change : Change) : Type 0 where
+pub record MayBeMade (change : Change) : Type 0 where
   pub rootless : path_of change ≢ []
-  pub valid : (path : List (List ℕ)) (entry : Entry) → change ≡ Put path entry → IsValid entry
+  pub valid : HasValidEntry change

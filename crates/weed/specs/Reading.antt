@@ -1,19 +1,18 @@
 -- How the text of a request is read, step by step.
-use Rattle.std.specs.Prelude.{ℕ, ◌-◌, Bool, false, List, length, take, drop, nat_eq, nat_le, ◌&&◌, ◌||◌, Option, None, Some, option_and_then, if◌then◌else◌, codes}
+use Rattle.std.specs.Prelude.{ℕ, ◌-◌, Bool, false, List, length, take, drop, bytes_eq, nat_le, ◌&&◌, ◌||◌, Option, None, Some, option_and_then, if◌then◌else◌, codes}
 use Rattle.std.specs.Option.{option_map_or}
-use Rattle.std.specs.Cmp.Lexicographic.{pointwise}
 use Rattle.std.specs.List.{prefix_len}
 use Rattle.weed.specs.Request.{is_target_byte, is_framed, is_host}
 
 -- The text behind the prefix.
 abbrev pub behind : List ℕ → List ℕ → Option (List ℕ)
-behind prefix text = if pointwise nat_eq (take (length prefix) text) prefix then Some (drop (length prefix) text) else None
+behind prefix text = if bytes_eq (take (length prefix) text) prefix then Some (drop (length prefix) text) else None
 
 -- The text ahead of the suffix.
 abbrev pub ahead : List ℕ → List ℕ → Option (List ℕ)
 ahead suffix text =
     let n = length text - length suffix in
-    if pointwise nat_eq (drop n text) suffix then Some (take n text) else None
+    if bytes_eq (drop n text) suffix then Some (take n text) else None
 
 -- What the line names as the host, where it stands alone ahead of the empty line.
 abbrev pub host_of : List ℕ → Option (List ℕ)
@@ -22,7 +21,7 @@ host_of text = option_and_then (ahead (codes "\r\n\r\n")) (behind (codes "Host: 
 -- The lines behind the first: the empty one, with or without one that names the host.
 abbrev pub is_head_end : List ℕ → Bool
 is_head_end text =
-    pointwise nat_eq text (codes "\r\n")
+    bytes_eq text (codes "\r\n")
     || option_map_or is_host (host_of text) false
 
 -- The target at the front of what stands behind the method.

@@ -1,6 +1,5 @@
 -- What a request for a directory is answered, and what it adds to the log.
-use Rattle.std.specs.Prelude.{◌≡◌, ℕ, ◌-◌, Bool, true, false, List, [], ◌∷◌, ◌++◌, length, take, codes, unwrap_or, None, MatchOption, ◌==◌, if◌then◌else◌}
-use Rattle.std.specs.List.{last_or}
+use Rattle.std.specs.Prelude.{◌≡◌, ℕ, ◌-◌, Bool, true, false, List, [], ◌∷◌, ◌++◌, length, take, codes, MatchOption, ◌==◌, if◌then◌else◌}
 use Rattle.weed_base.specs.Moments.{later_moments}
 use Rattle.weed_base.specs.Path.{IsPath, text_of}
 use Rattle.weed_base.specs.PathFaults.{read_fault, path_fault_name}
@@ -10,6 +9,7 @@ use Rattle.name_core.specs.declared.command.Command.TheVariants.{MakeDir}
 use Rattle.name_core.specs.declared.command.Refusal.{Refusal}
 use Rattle.name_core.specs.declared.command.Refusal.TheVariants.{IsFile, ClockAtEnd}
 use Rattle.name_core.specs.Log.{fold, last_time}
+use Rattle.name_core.specs.RecordText.{name_of}
 use Rattle.name_core.specs.Plan.{Planned, Recorded, Nothing, Refused, plan_of}
 use Rattle.weed.specs.Answer.{created_text, refused_text}
 use Rattle.weed.specs.declared.answer.Status.TheVariants.{BadRequest, Conflict}
@@ -30,18 +30,14 @@ abbrev pub refusal_text : Refusal → List ℕ
 refusal_text (IsFile path) = codes "IsFile " ++ text_of path
 refusal_text ClockAtEnd = codes "ClockAtEnd"
 
--- The last part of a path, empty for the root.
-abbrev pub last_part : List (List ℕ) → List ℕ
-last_part path = unwrap_or (last_or None path) []
-
 -- A target that is no path: 400 with the fault, which closes.
 abbrev pub bad_path : PathFault → Answering
 bad_path fault = record { answer = refused_text BadRequest (path_fault_name fault) true; closes = true; asks = false; added = [] }
 
 -- A path: 201 where the directory is there or made by a record, and 409 where the plan is refused.
 abbrev pub planned_reply : List (List ℕ) → Planned → Answering
-planned_reply path (Recorded made) = record { answer = created_text (last_part path); closes = false; asks = true; added = made ∷ [] }
-planned_reply path Nothing = record { answer = created_text (last_part path); closes = false; asks = true; added = [] }
+planned_reply path (Recorded made) = record { answer = created_text (name_of path); closes = false; asks = true; added = made ∷ [] }
+planned_reply path Nothing = record { answer = created_text (name_of path); closes = false; asks = true; added = [] }
 planned_reply path (Refused refusal) = record { answer = refused_text Conflict (refusal_text refusal) false; closes = false; asks = true; added = [] }
 
 -- What a request for a path is answered, over a log and at a moment.

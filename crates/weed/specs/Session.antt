@@ -24,15 +24,15 @@ pub record State : Type 0 where
 abbrev pub most_turns : ℕ
 most_turns = 2 ^ 40
 
--- The answer 503.
+-- The answer 503, for want of memory; the session goes on.
 abbrev pub memory_answer : List ℕ
 memory_answer = refused_text ServiceUnavailable (codes "Memory") false
 
--- The answer 500.
+-- The answer 500, for a fault of the disk; it closes.
 abbrev pub disk_answer : List ℕ
 disk_answer = refused_text InternalServerError (codes "DiskFault") true
 
--- The answer 501.
+-- The answer 501, for what is no request; it closes.
 abbrev pub not_yet_answer : List ℕ
 not_yet_answer = refused_text NotImplemented (codes "NotYet") true
 

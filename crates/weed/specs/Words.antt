@@ -1,6 +1,5 @@
 -- The words of a command line: `filer.once`, and `-dir=` before 1 to 1,024 bytes.
-use Rattle.std.specs.Prelude.{ℕ, Bool, List, [], ◌∷◌, length, nat_eq, nat_le, ◌&&◌, Result, Ok, Err, take, drop, codes, if◌then◌else◌}
-use Rattle.std.specs.Cmp.Lexicographic.{pointwise}
+use Rattle.std.specs.Prelude.{ℕ, Bool, List, [], ◌∷◌, length, bytes_eq, nat_le, ◌&&◌, Result, Ok, Err, take, drop, codes, if◌then◌else◌}
 use Rattle.weed.specs.declared.words.Order.{Order}
 use Rattle.weed.specs.declared.words.Order.TheVariants.{FilerOnce}
 
@@ -10,11 +9,11 @@ dir_of (FilerOnce dir) = dir.now
 
 -- The word `filer.once`.
 abbrev pub is_command : List ℕ → Bool
-is_command word = pointwise nat_eq word (codes "filer.once")
+is_command word = bytes_eq word (codes "filer.once")
 
 -- `-dir=`, and 1 to 1,024 bytes behind it.
 abbrev pub is_dir_flag : List ℕ → Bool
-is_dir_flag word = pointwise nat_eq (take 5 word) (codes "-dir=") && nat_le 6 (length word) && nat_le (length word) 1029
+is_dir_flag word = bytes_eq (take 5 word) (codes "-dir=") && nat_le 6 (length word) && nat_le (length word) 1029
 
 -- The directory that the flags name, or the place of the first bad word.
 abbrev pub directory_of : List (List ℕ) → Result (List ℕ) ℕ

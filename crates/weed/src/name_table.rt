@@ -1,7 +1,7 @@
 ghost use Rattle.std.specs.Prelude.{◌≡◌, ◌≤◌, ◌<◌, ◌+◌, All, length};
 ghost use Rattle.std.specs.FinMap.{empty, from_entries};
 ghost use Rattle.name_core.specs.Namespace.{after_changes, is_within, step};
-ghost use Rattle.weed.specs.KeptNames.{IsKept, AreKept};
+ghost use Rattle.weed.specs.KeptNames.{MayBeMade, AreKept};
 
 use name_core::{Change, Entry, KeeperFault, Names, RecordChanges};
 use std::alloc::{AllocError, Global};
@@ -50,7 +50,7 @@ impl NameTable {
     /// Makes a record's changes, in order. Takes no memory.
     pub fn commit(&mut self, changes: RecordChanges)
         requires spare { length changes ≤ spare_of self.old }
-        requires kept { All IsKept changes }
+        requires kept { All MayBeMade changes }
         ensures { names_of self.new ≡ after_changes changes (names_of self.old) }
     {
         for change in changes.into_vec() {
@@ -60,7 +60,7 @@ impl NameTable {
 
     fn make(&mut self, change: Change)
         requires spare { 0 < spare_of self.old }
-        requires kept { IsKept change }
+        requires kept { MayBeMade change }
         ensures names { names_of self.new ≡ step change (names_of self.old) }
         ensures spare { spare_of self.old ≤ spare_of self.new + 1 }
     {

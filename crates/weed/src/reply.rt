@@ -5,7 +5,8 @@ ghost use Rattle.weed_base.specs.Beside.{StaysBeside};
 ghost use Rattle.name_core.specs.declared.change.Record.{Record};
 ghost use Rattle.meta_log.specs.Making.{LeavesOthers};
 ghost use Rattle.meta_log.specs.declared.stem.Stem.TheVariants.{Log};
-ghost use Rattle.weed.specs.Reply.{path_text, bad_path, refusal_text, last_part};
+ghost use Rattle.weed.specs.Reply.{path_text, bad_path, refusal_text};
+ghost use Rattle.name_core.specs.RecordText.{name_of};
 ghost use Rattle.weed.specs.Answer.{created_text, refused_text};
 ghost use Rattle.weed.specs.Filer.{IsFiled, HoldsFiler};
 ghost use Rattle.weed.specs.Replied.{Gives, GivesFor, RepliesFault};
@@ -72,10 +73,7 @@ fn fault_reply(alloc: Global, fault: PathFault) -> Result<Reply, ReplyFault>
 {
     match fault {
         PathFault::Memory => Err(ReplyFault::Memory),
-        _ => match bad_path_reply(alloc, fault) {
-            Ok(reply) => Ok(reply),
-            Err(_) => Err(ReplyFault::Memory),
-        },
+        _ => Ok(bad_path_reply(alloc, fault)?),
     }
 }
 
@@ -102,7 +100,7 @@ fn refusal_line(alloc: Global, refusal: &Refusal) -> Result<String, AllocError>
 
 /// 201 with the name of a directory that is there.
 fn created_reply(alloc: Global, path: &Path) -> Result<Reply, AllocError>
-    ensures answer { IfOk result (λ reply. reply.answer ≡ created_text (last_part path.now)) }
+    ensures answer { IfOk result (λ reply. reply.answer ≡ created_text (name_of path.now)) }
     ensures closes { IfOk result (λ reply. reply.closes ≡ false) }
 {
     Ok(Reply {

@@ -21,7 +21,7 @@ use crate::exit::Exit;
 use crate::inbox::Inbox;
 use crate::plain_filer::PlainFiler;
 use crate::session::{Session, run};
-use crate::standing::make_standing;
+use crate::ready::ReadyAnswers;
 use crate::words::{Order, read_words};
 use crate::world::World;
 use meta_log::LogFault;
@@ -179,13 +179,13 @@ fn begin<H: Host>(alloc: Global, dir: &[u8], host: &mut H) -> Result<Session, Ex
         (λ _. MayAttach dir.now (H.tick host.old) (H.attachment host.old) (H.attachment host.new)) }
 {
     let inbox = Inbox::new(alloc)?;
-    let standing = make_standing(alloc)?;
+    let ready = ReadyAnswers::make(alloc)?;
     attach(alloc, dir, host)?;
     let filer = PlainFiler::open(alloc, host)?;
     Ok(Session {
         filer,
         inbox,
-        standing,
+        ready,
     })
 }
 

@@ -20,7 +20,7 @@ use crate::exit::Exit;
 use crate::inbox::{Head, Inbox, next_head};
 use crate::plain_filer::PlainFiler;
 use crate::reply::{ReplyFault, reply_to_target};
-use crate::standing::Standing;
+use crate::ready::ReadyAnswers;
 use crate::world::World;
 use crate::write::{WriteFault, send_all};
 use std::alloc::Global;
@@ -61,7 +61,7 @@ fn send_answer<H: Host>(host: &mut H, answer: &[u8], closes: bool) -> Turned
 pub struct Session {
     pub filer: PlainFiler,
     pub inbox: Inbox,
-    pub standing: Standing,
+    pub ready: ReadyAnswers,
 }
 
 /// Answers the requests of the input, each over the log that the ones before it left.
@@ -122,7 +122,7 @@ fn turn<S: Source, H: Host, C: Clock>(
 {
     match next_head(&mut world.source, &mut session.inbox) {
         Ok(Head::Request) => answer_request(alloc, session, world),
-        Ok(Head::NotYet) => send_answer(&mut world.host, session.standing.not_yet.as_slice(), true),
+        Ok(Head::NotYet) => send_answer(&mut world.host, session.ready.not_yet.as_slice(), true),
         Ok(Head::End) => Turned::Ended(Exit::Done),
         Err(Failed) => Turned::Ended(Exit::ReadFault),
     }
@@ -164,11 +164,11 @@ fn answer_request<S: Source, H: Host, C: Clock>(
         Ok(reply) => send_answer(&mut world.host, reply.answer.as_slice(), reply.closes),
         Err(ReplyFault::Memory) => send_answer(
             &mut world.host,
-            session.standing.memory.as_slice(),
+            session.ready.memory.as_slice(),
             false,
         ),
         Err(ReplyFault::DiskFault) => {
-            let _ = send_all(&mut world.host, session.standing.disk_fault.as_slice());
+            let _ = send_all(&mut world.host, session.ready.disk_fault.as_slice());
             Turned::Ended(Exit::DiskFault)
         }
     }

@@ -17,7 +17,7 @@ NoMore old new = (image : Files) → new image → old image
 abbrev pub Only : Option Files → (Files → Type 0) → Type 0
 Only told images = (image : Files) → images image → told ≡ Some image
 
--- Each new image comes from an old one by a step.
+-- Each new image comes by a step from an old one.
 abbrev pub Follows : (Files → Files → Type 0) → (Files → Type 0) → (Files → Type 0) → Type 0
 Follows Step old new = (image : Files) → new image → (before : Files) × old before × Step before image
 
@@ -59,8 +59,8 @@ pub record Elapses (old new : ℕ) (past since : ℕ → Files → Type 0) (imag
 pub record StandsStill (old new : ℕ) (past since : ℕ → Files → Type 0) (before now : Files → Type 0) : Type 0 where
   pub tick : new ≡ old
   pub images : NoMore before now
-  pub nothing_else : (moment : ℕ) (image : Files) → since moment image → past moment image
-  pub keeps : (moment : ℕ) (image : Files) → past moment image → since moment image
+  pub nothing_else : (moment : ℕ) → NoMore (past moment) (since moment)
+  pub keeps : (moment : ℕ) → NoMore (since moment) (past moment)
 
 -- Each image since a moment was one before these calls, or has P.
 pub record LeavesOnly {D : Type 0} (tick : D → ℕ) (since : D → ℕ → Files → Type 0) (old new : D) (P : Files → Type 0) : Type 0 where

@@ -50,7 +50,7 @@ disk_code =
     (λ p. record { start = p.0; past = p.1.0; calls = p.1.1.0; untold = p.1.1.1.0; attachment = p.1.1.1.1 })
     (λ _. refl)
 
--- A disk of these files, all of them settled.
+-- A disk of these files, all of them settled, of which the calls with these numbers fail.
 abbrev pub disk_of : Files → List ℕ → DiskState
 disk_of files failing = record { start = files; past = []; calls = uncalled failing; untold = 0; attachment = unattached }
 
@@ -66,7 +66,7 @@ images disk = Image disk.start disk.past
 abbrev pub images_since : DiskState → ℕ → Files → Type 0
 images_since disk = ImageSince disk.start disk.past disk.calls.made
 
--- A call of a memory disk has its number, and fails where that is listed.
+-- A call of a memory disk has its number, and fails where the disk was told so.
 pub record IsDiskCall {T E : Type 0} (old new : DiskState) (result : Result T E) : Type 0 where
   pub next : IsNextCall old.calls new.calls
   pub start : new.start ≡ old.start

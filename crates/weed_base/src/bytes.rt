@@ -82,12 +82,17 @@ pub struct PlainKind;
 #[derive(Debug, Drop)]
 pub struct LogTextKind;
 
+/// A word of a command line, or a place that is named by one.
 pub type Word = Text<WordKind>;
 
+/// A name in a directory.
 pub type Name = Text<NameKind>;
 
+/// A media type.
 pub type Mime = Text<MimeKind>;
 
+/// Bytes of no further meaning.
 pub type Bytes = Text<PlainKind>;
 
+/// A payload of a log.
 pub type LogText = Text<LogTextKind>;

@@ -84,7 +84,7 @@ impl FileName {
         }
     }
 
-    /// Takes no memory.
+    /// Its bytes. Takes no memory.
     pub fn as_slice(&self) -> &[u8]
         ensures name { IsTrue (is_file_name self.now) }
         ensures text { result.now ≡ self.now }

@@ -12,8 +12,8 @@ returns-in_err-inbox-clause-atomic g c files told =
     let host = c.args.host.now in
     leaves_nothing disk.tick disk.image_since host (HasLogOf (disk.images host))
 
-pub returns-in_err-standing-clause-atomic : goal.returns-in_err-standing-clause-atomic
-returns-in_err-standing-clause-atomic g c files told =
+pub returns-in_err-ready-clause-atomic : goal.returns-in_err-ready-clause-atomic
+returns-in_err-ready-clause-atomic g c files told =
     let disk = g.H.Disk in
     let host = c.args.host.now in
     leaves_nothing disk.tick disk.image_since host (HasLogOf (disk.images host))

@@ -23,7 +23,7 @@ returns-in-Ok-clause-leads g c old rest asking =
     (bytes_sent (g.H.Disk.sent c.args.world.now.host)) (bytes_sent (g.H.Disk.sent c.reply_to_target.new.disk)) (bytes_sent (g.H.Disk.sent c.send_answer.new.host))
     (g.H.Disk.files c.args.world.now.host) (g.H.Disk.files c.reply_to_target.new.disk) (g.H.Disk.files c.send_answer.new.host)
     (g.C.Clock.moments c.args.world.now.clock) (g.C.Clock.moments c.reply_to_target.new.clock)
-    c.args.session.now (record { filer = c.reply_to_target.new.filer; inbox = c.args.session.now.inbox; standing = c.args.session.now.standing })
+    c.args.session.now (record { filer = c.reply_to_target.new.filer; inbox = c.args.session.now.inbox; ready = c.args.session.now.ready })
     c.in-Ok.reply c.as_slice.result.now c.send_answer.result
     asking.asked
     (subst (λ (target : List ℕ). GivesTold moves tears (g.H.Disk.files c.args.world.now.host) (g.C.Clock.moments c.args.world.now.clock) c.args.session.now.filer target (g.H.Disk.files c.reply_to_target.new.disk) (g.C.Clock.moments c.reply_to_target.new.clock) c.reply_to_target.new.filer (Ok c.in-Ok.reply)) c.target-target.ensures c.in-Ok.ensures.gives)
@@ -44,13 +44,13 @@ returns-in-Err-Memory-clause-leads g c old rest asking =
     (bytes_sent (g.H.Disk.sent c.args.world.now.host)) (bytes_sent (g.H.Disk.sent c.reply_to_target.new.disk)) (bytes_sent (g.H.Disk.sent c.send_answer-in-Err-Memory.new.host))
     (g.H.Disk.files c.args.world.now.host) (g.H.Disk.files c.reply_to_target.new.disk) (g.H.Disk.files c.send_answer-in-Err-Memory.new.host)
     (g.C.Clock.moments c.args.world.now.clock) (g.C.Clock.moments c.reply_to_target.new.clock)
-    c.args.session.now (record { filer = c.reply_to_target.new.filer; inbox = c.args.session.now.inbox; standing = c.args.session.now.standing })
+    c.args.session.now (record { filer = c.reply_to_target.new.filer; inbox = c.args.session.now.inbox; ready = c.args.session.now.ready })
     c.as_slice-in-Err-Memory.result.now c.send_answer-in-Err-Memory.result
     asking.asked
     (subst (λ (target : List ℕ). GivesTold moves tears (g.H.Disk.files c.args.world.now.host) (g.C.Clock.moments c.args.world.now.clock) c.args.session.now.filer target (g.H.Disk.files c.reply_to_target.new.disk) (g.C.Clock.moments c.reply_to_target.new.clock) c.reply_to_target.new.filer (Err Memory)) c.target-target.ensures given)
     (λ before after. settles_sent disk.tick disk.images disk.image_since host c.reply_to_target.new.disk c.send_answer-in-Err-Memory.new.host before after c.send_answer-in-Err-Memory.ensures.still)
     asking.filer asking.moments_are asking.sent_is (ap bytes_sent c.reply_to_target.ensures.beside.0.0) c.send_answer-in-Err-Memory.ensures.files
-    (c.as_slice-in-Err-Memory.ensures ∙ c.args.session.now.standing.memory_is)
+    (c.as_slice-in-Err-Memory.ensures ∙ c.args.session.now.ready.memory_is)
     c.send_answer-in-Err-Memory.ensures.sends asking.left_is
 
 pub returns-in-Err-DiskFault-clause-leads : goal.returns-in-Err-DiskFault-clause-leads
@@ -66,13 +66,13 @@ returns-in-Err-DiskFault-clause-leads g c old rest asking =
     (bytes_sent (g.H.Disk.sent c.args.world.now.host)) (bytes_sent (g.H.Disk.sent c.reply_to_target.new.disk)) (bytes_sent (g.H.Disk.sent c.send_all.new.host))
     (g.H.Disk.files c.args.world.now.host) (g.H.Disk.files c.reply_to_target.new.disk) (g.H.Disk.files c.send_all.new.host)
     (g.C.Clock.moments c.args.world.now.clock) (g.C.Clock.moments c.reply_to_target.new.clock)
-    c.args.session.now (record { filer = c.reply_to_target.new.filer; inbox = c.args.session.now.inbox; standing = c.args.session.now.standing })
+    c.args.session.now (record { filer = c.reply_to_target.new.filer; inbox = c.args.session.now.inbox; ready = c.args.session.now.ready })
     c.as_slice-in-Err-DiskFault.result.now c.send_all.result
     asking.asked
     (subst (λ (target : List ℕ). GivesTold moves tears (g.H.Disk.files c.args.world.now.host) (g.C.Clock.moments c.args.world.now.clock) c.args.session.now.filer target (g.H.Disk.files c.reply_to_target.new.disk) (g.C.Clock.moments c.reply_to_target.new.clock) c.reply_to_target.new.filer (Err DiskFault)) c.target-target.ensures given)
     (λ before after. tears_sent disk.tick disk.images disk.image_since host c.reply_to_target.new.disk c.send_all.new.host before after c.send_all.ensures.still)
     asking.filer asking.moments_are asking.sent_is (ap bytes_sent c.reply_to_target.ensures.beside.0.0) c.send_all.ensures.files
-    (c.as_slice-in-Err-DiskFault.ensures ∙ c.args.session.now.standing.disk_fault_is)
+    (c.as_slice-in-Err-DiskFault.ensures ∙ c.args.session.now.ready.disk_fault_is)
     c.send_all.ensures.bytes (subst (λ faults. OnErr c.send_all.result (Rose faults (disk.send_faults c.send_all.new.host))) c.reply_to_target.ensures.beside.0.1 (failed_in _ _ c.send_all.result c.send_all.ensures.cause)) asking.left_is
 
 pub returns-in-Ok-clause-pieces : goal.returns-in-Ok-clause-pieces

@@ -10,7 +10,7 @@ use Rattle.weed.proofs.session.turn.Goals as goal
 pub returns-in-Ok-Request-clause-leads : goal.returns-in-Ok-Request-clause-leads
 returns-in-Ok-Request-clause-leads g c old tells =
     let found = asking_found old (g.S.Source.left c.args.world.now.source) (g.S.Source.left c.next_head.new.from) (bytes_sent (g.H.Disk.sent c.args.world.now.host)) (g.H.Disk.files c.args.world.now.host) (g.C.Clock.moments c.args.world.now.clock)
-    c.args.session.now (record { filer = c.args.session.now.filer; inbox = c.next_head.new.inbox; standing = c.args.session.now.standing }) c.in-Ok-Request.field-0
+    c.args.session.now (record { filer = c.args.session.now.filer; inbox = c.next_head.new.inbox; ready = c.args.session.now.ready }) c.in-Ok-Request.field-0
     tells c.in-Ok-Request.field-0-is c.in-Ok-Request.ensures.head refl in
     c.answer_request.ensures.leads old found.0 found.1
 
@@ -19,8 +19,8 @@ returns-in-Ok-NotYet-clause-leads g c old tells =
     let disk = g.H.Disk in
     let host = c.args.world.now.host in
     refused_leads (Rose (disk.send_faults host) (disk.send_faults c.send_answer.new.host)) (Settling disk.tick disk.images disk.image_since host c.send_answer.new.host old.log) (Tearing disk.tick disk.images disk.image_since host c.send_answer.new.host old.log) old (g.S.Source.left c.args.world.now.source) (g.S.Source.left c.next_head.new.from) (bytes_sent (g.H.Disk.sent c.args.world.now.host)) (bytes_sent (g.H.Disk.sent c.send_answer.new.host)) (g.H.Disk.files c.args.world.now.host) (g.H.Disk.files c.send_answer.new.host) (g.C.Clock.moments c.args.world.now.clock)
-    c.args.session.now (record { filer = c.args.session.now.filer; inbox = c.next_head.new.inbox; standing = c.args.session.now.standing }) c.in-Ok-NotYet.field-0 c.as_slice.result.now c.send_answer.result
-    tells c.in-Ok-NotYet.field-0-is c.in-Ok-NotYet.ensures.head refl c.send_answer.ensures.files (c.as_slice.ensures ∙ c.args.session.now.standing.not_yet_is) c.send_answer.ensures.sends
+    c.args.session.now (record { filer = c.args.session.now.filer; inbox = c.next_head.new.inbox; ready = c.args.session.now.ready }) c.in-Ok-NotYet.field-0 c.as_slice.result.now c.send_answer.result
+    tells c.in-Ok-NotYet.field-0-is c.in-Ok-NotYet.ensures.head refl c.send_answer.ensures.files (c.as_slice.ensures ∙ c.args.session.now.ready.not_yet_is) c.send_answer.ensures.sends
     (settles_sent disk.tick disk.images disk.image_since host host c.send_answer.new.host old.log old.log c.send_answer.ensures.still (settles_nothing disk.tick disk.images disk.image_since host old.log))
 
 pub returns-in-Ok-End-clause-leads : goal.returns-in-Ok-End-clause-leads
@@ -30,7 +30,7 @@ returns-in-Ok-End-clause-leads g c old tells =
     let left = g.S.Source.left c.next_head.new.from in
     ended_leads (Rose (disk.send_faults host) (disk.send_faults host)) (Settling disk.tick disk.images disk.image_since host host old.log) (Tearing disk.tick disk.images disk.image_since host host old.log) old (g.S.Source.left c.args.world.now.source) left
     (bytes_sent (disk.sent host)) (disk.files host) (g.C.Clock.moments c.args.world.now.clock)
-    c.args.session.now (record { filer = c.args.session.now.filer; inbox = c.next_head.new.inbox; standing = c.args.session.now.standing }) c.in-Ok-End.field-0
+    c.args.session.now (record { filer = c.args.session.now.filer; inbox = c.next_head.new.inbox; ready = c.args.session.now.ready }) c.in-Ok-End.field-0
     tells c.in-Ok-End.field-0-is c.in-Ok-End.ensures.head (settles_nothing disk.tick disk.images disk.image_since host old.log)
 
 pub returns-in-Ok-End-clause-pieces : goal.returns-in-Ok-End-clause-pieces
@@ -42,7 +42,7 @@ returns-in-Err-clause-leads g c old tells =
     let host = c.args.world.now.host in
     unread_leads (Rose (disk.send_faults host) (disk.send_faults host)) (Settling disk.tick disk.images disk.image_since host host old.log) (Tearing disk.tick disk.images disk.image_since host host old.log) old (g.S.Source.left c.args.world.now.source) (g.S.Source.left c.next_head.new.from)
     (bytes_sent (disk.sent host)) (disk.files host) (g.C.Clock.moments c.args.world.now.clock)
-    c.args.session.now (record { filer = c.args.session.now.filer; inbox = c.next_head.new.inbox; standing = c.args.session.now.standing })
+    c.args.session.now (record { filer = c.args.session.now.filer; inbox = c.next_head.new.inbox; ready = c.args.session.now.ready })
     tells c.in-Err.ensures.head (settles_nothing disk.tick disk.images disk.image_since host old.log)
 
 pub returns-in-Err-clause-pieces : goal.returns-in-Err-clause-pieces

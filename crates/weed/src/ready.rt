@@ -7,7 +7,7 @@ use weed_base::Bytes;
 
 /// Answers that are made before they are needed, since they tell of want of memory or a fault.
 #[derive(Debug, Drop)]
-pub struct Standing {
+pub struct ReadyAnswers {
     pub memory: Bytes,
     pub disk_fault: Bytes,
     pub not_yet: Bytes,
@@ -16,11 +16,13 @@ pub struct Standing {
     ghost not_yet_is: { not_yet ≡ not_yet_answer },
 }
 
-/// Makes them, before the first request.
-pub fn make_standing(alloc: Global) -> Result<Standing, AllocError> {
-    Ok(Standing {
-        memory: refused(alloc, Status::ServiceUnavailable, "Memory", false)?,
-        disk_fault: refused(alloc, Status::InternalServerError, "DiskFault", true)?,
-        not_yet: refused(alloc, Status::NotImplemented, "NotYet", true)?,
-    })
+impl ReadyAnswers {
+    /// Makes them, before the first request.
+    pub fn make(alloc: Global) -> Result<ReadyAnswers, AllocError> {
+        Ok(ReadyAnswers {
+            memory: refused(alloc, Status::ServiceUnavailable, "Memory", false)?,
+            disk_fault: refused(alloc, Status::InternalServerError, "DiskFault", true)?,
+            not_yet: refused(alloc, Status::NotImplemented, "NotYet", true)?,
+        })
+    }
 }
