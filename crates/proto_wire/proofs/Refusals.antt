@@ -1,9 +1,12 @@
 -- Each refusal comes exactly in its case.
-use Rattle.std.proofs.Common.{◌≡◌, ◌⊎◌, ℕ, zero, suc, ◌+◌, ◌-◌, ◌*◌, ◌/◌, ◌%◌, ◌^◌, ◌<◌, ◌≤◌, Bool, true, false, cond, ltb, leb, eqb, ◌&&◌, List, [], ◌∷◌, length, drop, take, Result, Ok, Err, refl, sym, ap, subst, ◌∙◌, arith, inl, inr}
+use Rattle.std.proofs.Common.{◌≡◌, ◌≢◌, ◌⊎◌, ℕ, zero, suc, ◌+◌, ◌-◌, ◌*◌, ◌/◌, ◌%◌, ◌^◌, ◌<◌, ◌≤◌, Bool, true, false, cond, ltb, leb, eqb, ◌&&◌, List, [], ◌∷◌, length, drop, take, Result, Ok, Err, refl, sym, ap, subst, ◌∙◌, arith, inl, inr}
 use Rattle.std.specs.Int.{Width, w32, w64, byte_len, from_le_bytes}
 use Rattle.std.proofs.lemmas.Bool.{lt-ltb, le-ltb, ltb-true, ltb-false, leb-true, le-leb, eqb-true, eqb-false, cond-true, cond-false, and_parts, and_from, false_from_ne_true}
 use Rattle.proto_wire.specs.declared.fault.WireFault.{WireFault}
 use Rattle.proto_wire.specs.declared.fault.WireFault.TheVariants.{Truncated, BadVarint, BadTag, BadWireType}
+use Rattle.proto_wire.specs.declared.wire_type.WireType.{WireType}
+use Rattle.proto_wire.specs.declared.wire_type.WireType.TheVariants as types
+use Rattle.proto_wire.specs.WireType.{code_of}
 use Rattle.proto_wire.specs.Text.{IsFieldNumber}
 use Rattle.proto_wire.specs.Field.{ValueText, Varint, Fixed64, Bytes, Fixed32, FieldText, IsVarint, ◌>>=◌, number_within, varint_at, fixed_at, bytes_at, value_at, field_at}
 use Rattle.proto_wire.specs.Refusal.{GoesOn, IsVarintFault, IsShort, IsValueFault, varint, fixed64, count, bytes_short, fixed32, unread, IsRefused}
@@ -180,6 +183,13 @@ unread_faults kind bytes other =
         ]
       ]
     ]
+
+-- No field has a wire type of that number.
+pub no_type_unread : (kind : ℕ) (bytes : List ℕ) → ((wire_type : WireType) → kind ≢ code_of wire_type) → value_at kind bytes ≡ Err BadWireType
+unfolding value_at
+no_type_unread kind bytes none =
+    let other : (n : ℕ) → kind ≢ n → eqb kind n ≡ false = λ n apart. false_from_ne_true (eqb kind n) (λ same. apart (eqb-true kind n same)) in
+    rw (other 0 (none types.Varint), other 1 (none types.Fixed64), other 2 (none types.Bytes), other 5 (none types.Fixed32)) refl
 
 value_faults : (kind : ℕ) (bytes : List ℕ) (fault : WireFault) → IsValueFault kind fault bytes → value_at kind bytes ≡ Err fault
 unfolding value_at

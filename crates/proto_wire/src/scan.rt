@@ -6,6 +6,7 @@ ghost use Rattle.proto_wire.specs.Reading.{Gives, AreBytes};
 
 use crate::fault::WireFault;
 use crate::field::{Field, Value};
+use crate::wire_type::WireType;
 
 const MAX_NUMBER: u64 = 536_870_911;
 
@@ -83,27 +84,26 @@ fn bytes_of(text: &[u8]) -> Result<(&[u8], &[u8]), WireFault>
 }
 
 #[tactic(auto, unfolding(crate::specs::Field::value_at))]
-fn value_of(wire_type: u64, text: &[u8]) -> Result<(Value<'_>, &[u8]), WireFault>
-    ensures { Gives (λ found. (value_text found.0, found.1.now)) result (value_at wire_type text.now) }
+fn value_of(code: u64, text: &[u8]) -> Result<(Value<'_>, &[u8]), WireFault>
+    ensures { Gives (λ found. (value_text found.0, found.1.now)) result (value_at code text.now) }
 {
-    match wire_type {
-        0 => {
+    match WireType::of_code(code)? {
+        WireType::Varint => {
             let (number, rest) = varint_of(text)?;
             Ok((Value::Varint(number), rest))
         }
-        1 => {
+        WireType::Fixed64 => {
             let (number, rest) = fixed64_of(text)?;
             Ok((Value::Fixed64(number), rest))
         }
-        2 => {
+        WireType::Bytes => {
             let (bytes, rest) = bytes_of(text)?;
             Ok((Value::Bytes(bytes), rest))
         }
-        5 => {
+        WireType::Fixed32 => {
             let (number, rest) = fixed32_of(text)?;
             Ok((Value::Fixed32(number), rest))
         }
-        _ => Err(WireFault::BadWireType),
     }
 }
 
