@@ -5,8 +5,8 @@ use Rattle.std.proofs.Math.Seq.{drop-append-add}
 use Rattle.std.proofs.lemmas.List.{take_at, drop_at, take-append-drop, length-append, length-take, length-drop, drop-drop}
 use Rattle.needle.specs.declared.version.Version.{Version}
 use Rattle.needle.specs.declared.version.Version.TheVariants.{V2, V3}
-use Rattle.needle.specs.Answer.{IsWhole, IsMoment}
-use Rattle.needle.specs.Fields.{four_at, eight_at, size_in, counted_in, checksum_in, moment_in}
+use Rattle.needle.specs.Answer.{IsMoment}
+use Rattle.needle.specs.Fields.{four_at, eight_at, size_in, counted_in, checksum_in, moment_in, IsWhole}
 use Rattle.needle.specs.Item.{moment_text, padding_len}
 use Rattle.needle.specs.Layout.{frame_len, padded}
 use Rattle.needle.proofs.Codecs.{IsBytes, IsBytes-take, IsBytes-drop, IsWide, wide32, wide64}

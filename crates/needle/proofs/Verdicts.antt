@@ -11,9 +11,9 @@ use Rattle.needle.specs.declared.item.Item.TheVariants.{Live, Gone}
 use Rattle.needle.specs.declared.item.ReadItem.{ReadItem}
 use Rattle.needle.specs.declared.version.Version.{Version}
 use Rattle.needle.specs.declared.version.Version.TheVariants.{V2, V3}
-use Rattle.needle.specs.Answer.{IsItem, IsMoment, BeginsWith, IsWhole, IsRefused}
+use Rattle.needle.specs.Answer.{IsItem, IsMoment, BeginsWith, IsRefused}
 use Rattle.needle.specs.Crc.{checksum}
-use Rattle.needle.specs.Fields.{four_at, eight_at, size_in, counted_in, checksum_in, moment_in}
+use Rattle.needle.specs.Fields.{four_at, eight_at, size_in, counted_in, checksum_in, moment_in, IsWhole}
 use Rattle.needle.specs.Item.{flags, unmarked, parts_text, content, body_of, cookie_of, key_of, item_front, padding_len}
 use Rattle.needle.specs.Layout.{padded, frame_len}
 use Rattle.needle.specs.Reading.{behind, item_at, read_at, Gives}

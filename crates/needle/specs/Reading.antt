@@ -9,7 +9,7 @@ use Rattle.needle.specs.declared.item.Item.TheVariants.{Live, Gone}
 use Rattle.needle.specs.declared.item.ReadItem.{ReadItem}
 use Rattle.needle.specs.declared.version.Version.{Version}
 use Rattle.needle.specs.Crc.{checksum}
-use Rattle.needle.specs.Fields.{four_at, eight_at, size_in, counted_in, checksum_in, moment_in}
+use Rattle.needle.specs.Fields.{four_at, eight_at, size_in, counted_in, checksum_in, moment_in, IsWhole}
 use Rattle.needle.specs.Layout.{padded}
 use Rattle.needle.specs.declared.frame.Frame.{Frame}
 use Rattle.needle.specs.declared.parts.Parts.{Parts}
