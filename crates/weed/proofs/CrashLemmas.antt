@@ -294,7 +294,7 @@ sends_weaker Here Cut cut before answer sent (inl whole) = inl whole
 sends_weaker Here Cut cut before answer sent (inr front) = inr (cut front.0, front.1, front.2)
 
 faulted_weaker : (Here Cut : Type 0) → (Here → Cut) → (old last : State) → EndsAfter Here exit.DiskFault old last → EndsAfter Cut exit.DiskFault old last
-faulted_weaker Here Cut cut old last ends = (ends.0, ends.1, ends.2, ends.3, sends_weaker Here Cut cut old.sent disk_answer last.sent ends.4, ends.5, ends.6)
+faulted_weaker Here Cut cut old last ends = (ends.0, ends.1, ends.2, ends.3, ends.4, sends_weaker Here Cut cut old.sent disk_answer last.sent ends.5, ends.6, ends.7)
 
 -- How a turn ends is how the session ends.
 pub ends_after : {D : Type 0} (Here Cut : Type 0) → (Here → Cut) → (tick : D → ℕ) (images : D → Files → Type 0) (since : D → ℕ → Files → Type 0) (sent : D → Option (List Piece))

@@ -36,7 +36,7 @@ pub failed : (told later : Option Files) (old new : PlainFiler) (made : Record) 
     → ReadsAs text made → MakesAny (λ _. Recorded made) told later old new (Err fault.DiskFault)
 failed None later old new made text both either reads = tt
 failed (Some files) None old new made text both either reads = absurd both
-failed (Some files) (Some more) old new made text both either reads = λ records filed. either records made filed.log reads refl
+failed (Some files) (Some more) old new made text both either reads = λ records filed. ((λ none. absurd (cc none)), either records made filed.log reads refl)
 
 -- After one that was done, the filer has one record more.
 pub recorded : (told later : Option Files) (old new : PlainFiler) (made : Record) (text : List ℕ)

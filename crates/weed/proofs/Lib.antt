@@ -6,7 +6,7 @@ pub mod ReadingLemmas
 pub mod HeadLemmas
 pub mod InboxLemmas
 pub mod NameLemmas
-pub mod OthersLemmas
+pub mod GrowthLemmas
 pub mod ReplyLemmas
 pub mod SessionLemmas
 pub mod CrashLemmas

@@ -1,5 +1,5 @@
 -- Records that are taken from a log in their order.
-use Rattle.std.proofs.Common.{◌≡◌, ℕ, zero, suc, ◌+◌, ◌-◌, ◌<◌, List, [], ◌∷◌, ◌++◌, length, take, drop, get_or, Option, Some, None, refl, sym, ap, ◌∙◌, subst, arith, append_assoc, length-append, inr}
+use Rattle.std.proofs.Common.{◌≡◌, ℕ, zero, suc, ◌+◌, ◌-◌, ◌<◌, ◌≤◌, List, [], ◌∷◌, ◌++◌, length, take, drop, get_or, Option, Some, None, refl, sym, ap, ◌∙◌, subst, arith, append_assoc, length-append, inr}
 use Rattle.std.specs.FinMap.{empty}
 use Rattle.std.proofs.lemmas.List.{append-nil, take-append-drop, take_more, drop_more, nil_from_length}
 use Rattle.weed_base.specs.Files.{Files}
@@ -20,7 +20,7 @@ use Rattle.meta_log.proofs.RecordLists.{ReadAs-unique}
 use Rattle.meta_log.proofs.RecordPlaces.{ReadAs-append, start_lies}
 use Rattle.meta_log.proofs.Unique.{text_unique}
 use Rattle.weed.specs.NameTable.{names_of}
-use Rattle.weed.specs.Replay.{Takes, AreUnreadable, HoldsTaken, HoldsNames}
+use Rattle.weed.specs.Replay.{Takes, TakesMany, AreUnreadable, HoldsTaken, HoldsNames}
 use Rattle.weed.specs.declared.name_table.NameTable.{NameTable}
 
 -- What two lists of records leave
@@ -46,6 +46,14 @@ takes_more page more first second third front back = record {
   read = ReadAs-append page more front.records back.records front.read back.read;
   names = back.names ∙ ap (after_changes (changes_of back.records)) front.names ∙ sym (after_both front.records back.records first);
 }
+
+-- None are taken, and more behind others
+pub takes_none : (names : Namespace) (front count : ℕ) → names ≡ empty → count ≡ front → TakesMany (front - count) empty names
+takes_none names front count none same = ([], record { records = []; read = tt; names = none }, omega (arith, same))
+
+pub takes_both : (front before after : ℕ) (first second third : Namespace) → after < before → TakesMany (front - before) first second → TakesMany (before - after) second third → TakesMany (front - after) first third
+takes_both front before after first second third less (page, takes, count) (more, takes', count') =
+    (page ++ more, takes_more page more first second third takes takes', omega (arith, less, count, count', length-append page more))
 
 -- A text that is no record's among others
 unread_within : (page : List (List ℕ)) (text : List ℕ) (more : List (List ℕ)) → IsNoRecord text → AreUnreadable (page ++ text ∷ more)

@@ -106,11 +106,11 @@ refused_no_memory old new clock later filer filer' path moment refusal Moves Tea
     ((made_told old new filer filer' path moment (Err (fault.Refused refusal)) made files records told filed).1, inr at.1, images files records told filed)
 
 fault_says : (plan : Planned) (path : List (List ℕ)) (records : List Record) (moments : List ℕ) (new : Option Files) (later : Option (List ℕ)) (Tears : List Record → Type 0)
-    → TellsEither new records (added_by plan) → later ≡ Some (later_moments moments) → Tears (records ++ added_by plan)
-    → TellsEither new records (planned_reply path plan).added × (later ≡ Some (moments_after (planned_reply path plan) moments)) × Tears (records ++ (planned_reply path plan).added)
-fault_says (Recorded made) path records moments new later Tears told left tears = (told, left, tears)
-fault_says Nothing path records moments new later Tears told left tears = (told, left, tears)
-fault_says (Refused refusal) path records moments new later Tears told left tears = (told, left, tears)
+    → added_by plan ≢ [] → TellsEither new records (added_by plan) → later ≡ Some (later_moments moments) → Tears (records ++ added_by plan)
+    → ((planned_reply path plan).added ≢ []) × TellsEither new records (planned_reply path plan).added × (later ≡ Some (moments_after (planned_reply path plan) moments)) × Tears (records ++ (planned_reply path plan).added)
+fault_says (Recorded made) path records moments new later Tears adds told left tears = (adds, told, left, tears)
+fault_says Nothing path records moments new later Tears adds told left tears = (adds, told, left, tears)
+fault_says (Refused refusal) path records moments new later Tears adds told left tears = (adds, told, left, tears)
 
 pub gives_disk_fault : (old new : Option Files) (clock later : Option (List ℕ)) (filer filer' : PlainFiler) (path : List (List ℕ)) (moment : ℕ) (Moves Tears : List Record → List Record → Type 0)
     → MakesTold old new filer filer' path moment (Err fault.DiskFault) → ImagesTold old filer path moment Moves Tears (Err fault.DiskFault) → Asked clock later moment
@@ -120,15 +120,15 @@ gives_disk_fault old new clock later filer filer' path moment Moves Tears made i
     let at = moment_told clock later moment asked moments coming in
     let makes = made_told old new filer filer' path moment (Err fault.DiskFault) made files records told filed in
     let plan = plan_for path records moment in
-    let says = fault_says plan path records moments new later (Tears records) makes at.1 (images files records told filed) in
-    (planned_reply path plan, ap (λ m. reply_to records m path) at.0, says.0, says.1, says.2)
+    let says = fault_says plan path records moments new later (Tears records) makes.0 makes.1 at.1 (images files records told filed) in
+    (planned_reply path plan, ap (λ m. reply_to records m path) at.0, says.0, says.1, says.2, says.3)
 
 -- What holds of an answering holds in another's words.
 such_weaker : (Such Other : Answering → Type 0) (Moves Tears : List Record → Type 0) (log : List Record) (moments : List ℕ) (files : Option Files) (later : Option (List ℕ)) (filer : PlainFiler) (result : Result Reply ReplyFault)
     → ((says : Answering) → Such says → Other says) → GivesSuch Such Moves Tears log moments files later filer result → GivesSuch Other Moves Tears log moments files later filer result
 such_weaker Such Other Moves Tears log moments files later filer (Ok reply) weaker gives = (gives.0, weaker gives.0 gives.1, gives.2, gives.3, gives.4, gives.5)
 such_weaker Such Other Moves Tears log moments files later filer (Err Memory) weaker gives = gives
-such_weaker Such Other Moves Tears log moments files later filer (Err DiskFault) weaker gives = (gives.0, weaker gives.0 gives.1, gives.2, gives.3, gives.4)
+such_weaker Such Other Moves Tears log moments files later filer (Err DiskFault) weaker gives = (gives.0, weaker gives.0 gives.1, gives.2, gives.3, gives.4, gives.5)
 
 -- What a target's path is answered is what the target is answered.
 path_says : (fault : Option PathFault) (text : List ℕ) (path : List (List ℕ)) (read : Result (List (List ℕ)) PathFault) (log : List Record) (moment : ℕ) (says : Answering)

@@ -177,11 +177,11 @@ faulted_leads Cut Moves Tears Sent Torn old rest target left sent sent' sent'' f
     let given = gave Moves Tears old target files files' clock clock' session.filer session'.filer (Err DiskFault) gives tells clock_is in
     let says = given.0 in
     let sends = sent_of Cut sent' sent'' old.sent answer result (same_sent ∙ sent_is) writes cut in
-    let log = either_is_log files' old.log says.added given.2 in (
+    let log = either_is_log files' old.log says.added given.3 in (
       record { left = rest; sent = sends.0; log = log.0; moments = moments_after says old.moments },
-      record { left_is = (session'.inbox.pending, left_is); sent_is = sends.1; log_is = subst (λ o. IsSomeAnd o (λ told. IsRecordLog told log.0)) (sym same_files) log.1; moments_are = given.3 },
-      (target, says, asked, given.1, subst (λ bytes. SendsUnlessCut Cut old.sent bytes sends.0) answer_is sends.2, log.2, refl),
-      (old.log ++ says.added, (target, says, asked, given.1, refl), tearing old.log (old.log ++ says.added) given.4),
+      record { left_is = (session'.inbox.pending, left_is); sent_is = sends.1; log_is = subst (λ o. IsSomeAnd o (λ told. IsRecordLog told log.0)) (sym same_files) log.1; moments_are = given.4 },
+      (target, says, asked, given.1, given.2, subst (λ bytes. SendsUnlessCut Cut old.sent bytes sends.0) answer_is sends.2, log.2, refl),
+      (old.log ++ says.added, (target, says, asked, given.1, refl), tearing old.log (old.log ++ says.added) given.5),
     )
 
 -- What was found in front of the input

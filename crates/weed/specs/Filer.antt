@@ -1,5 +1,5 @@
 -- A filer over a table of names: its log, and the namespace that the log stands for.
-use Rattle.std.specs.Prelude.{◌≡◌, ◌⊎◌, List, [], ◌∷◌, ◌++◌, Option, IfSome, IsSomeAnd, Result, Ok, Err}
+use Rattle.std.specs.Prelude.{◌≡◌, ◌≢◌, List, [], ◌∷◌, ◌++◌, Option, IfSome, IsSomeAnd, Result, Ok, Err}
 use Rattle.weed_base.specs.Files.{Files}
 use Rattle.name_core.specs.declared.change.Record.{Record}
 use Rattle.name_core.specs.Log.{fold}
@@ -50,11 +50,11 @@ IsAccepted (Recorded made) = Unit {0}
 IsAccepted Nothing = Unit {0}
 IsAccepted (Refused refusal) = ⊥
 
--- What a command leaves of a filer with these records, by its plan.
+-- What a command leaves of a filer with these records, by its plan. The disk is called for a record alone.
 abbrev pub Makes : Planned → List Record → Option Files → PlainFiler → Result (Unit {0}) MakeFault → Type 0
 Makes plan records told filer (Ok done) = IsAccepted plan × TellsFiler told filer (records ++ added_by plan)
 Makes plan records told filer (Err (fault.Refused refusal)) = (plan ≡ Refused refusal) × TellsFiler told filer records
-Makes plan records told filer (Err fault.DiskFault) = TellsEither told records (added_by plan)
+Makes plan records told filer (Err fault.DiskFault) = (added_by plan ≢ []) × TellsEither told records (added_by plan)
 Makes plan records told filer (Err fault.Memory) = TellsFiler told filer records
 
 -- What the same leaves of the images: `Moves` tells of them on the way to a log, and `Tears` where a call failed.

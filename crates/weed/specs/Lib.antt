@@ -11,6 +11,7 @@ pub mod Span
 pub mod KeptNames
 pub mod NameTable
 pub mod Settling
+pub mod Growth
 pub mod Handed
 pub mod Filer
 pub mod Reply

@@ -1,5 +1,5 @@
 -- The records of a log, taken one by one into names.
-use Rattle.std.specs.Prelude.{◌≡◌, ℕ, List, length, Option, IfSome}
+use Rattle.std.specs.Prelude.{◌≡◌, ◌≤◌, ℕ, List, length, Option, IfSome}
 use Rattle.weed_base.specs.Files.{Files}
 use Rattle.name_core.specs.declared.change.Record.{Record}
 use Rattle.name_core.specs.Namespace.{Namespace, after_changes}
@@ -17,6 +17,10 @@ pub record Takes (texts : List (List ℕ)) (old new : Namespace) : Type 0 where
   pub records : List Record
   pub read : ReadAs texts records
   pub names : new ≡ after_changes (changes_of records) old
+
+-- Texts of at least so many records were taken into names.
+abbrev pub TakesMany : ℕ → Namespace → Namespace → Type 0
+TakesMany count old new = (texts : List (List ℕ)) × Takes texts old new × (count ≤ length texts)
 
 -- Not all of the texts read as records.
 abbrev pub AreUnreadable : List (List ℕ) → Type 0

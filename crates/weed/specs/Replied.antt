@@ -1,5 +1,5 @@
 -- What is ready to be sent, and what the outside and the filer are by then.
-use Rattle.std.specs.Prelude.{◌≡◌, ◌≢◌, ℕ, ◌⊎◌, List, ◌++◌, Option, Some, Result, Ok, Err}
+use Rattle.std.specs.Prelude.{◌≡◌, ◌≢◌, ℕ, ◌⊎◌, List, [], ◌++◌, Option, Some, Result, Ok, Err}
 use Rattle.weed_base.specs.Files.{Files}
 use Rattle.weed_base.specs.Moments.{first_moment, later_moments}
 use Rattle.name_core.specs.declared.change.Record.{Record}
@@ -25,7 +25,7 @@ RepliesFault fault (Err DiskFault) = ⊥
 
 -- Over a log and at moments to come a request, whose answering is to be such, gave this: that answering, with
 -- its records in the log; want of memory, with nothing changed but that a moment may be gone; or a fault of the
--- disk, with its records in the log or not. `Moves` tells of the images on the way to a log, and `Tears` where a
+-- disk, where it adds records, with these in the log or not. `Moves` tells of the images on the way to a log, and `Tears` where a
 -- call failed.
 abbrev pub GivesSuch : (Answering → Type 0) → (List Record → Type 0) → (List Record → Type 0) → List Record → List ℕ → Option Files → Option (List ℕ) → PlainFiler → Result Reply ReplyFault → Type 0
 GivesSuch Such Moves Tears log moments files later filer (Ok reply) =
@@ -33,7 +33,7 @@ GivesSuch Such Moves Tears log moments files later filer (Ok reply) =
 GivesSuch Such Moves Tears log moments files later filer (Err Memory) =
     TellsFiler files filer log × ((later ≡ Some moments) ⊎ (later ≡ Some (later_moments moments))) × Moves log
 GivesSuch Such Moves Tears log moments files later filer (Err DiskFault) =
-    (says : Answering) × Such says × TellsEither files log says.added × (later ≡ Some (moments_after says moments)) × Tears (log ++ says.added)
+    (says : Answering) × Such says × (says.added ≢ []) × TellsEither files log says.added × (later ≡ Some (moments_after says moments)) × Tears (log ++ says.added)
 
 -- The same of a request for a target.
 abbrev pub Gives : List Record → List ℕ → List ℕ → (List Record → Type 0) → (List Record → Type 0) → Option Files → Option (List ℕ) → PlainFiler → Result Reply ReplyFault → Type 0

@@ -1,5 +1,5 @@
 -- A session: the requests of an input, each answered over the log that the ones before it left.
-use Rattle.std.specs.Prelude.{◌≡◌, ℕ, ◌^◌, ◌⊎◌, ⊤, Bool, true, false, List, [], ◌∷◌, ◌++◌, take, Option, Some, IsSomeAnd, codes}
+use Rattle.std.specs.Prelude.{◌≡◌, ◌≢◌, ℕ, ◌^◌, ◌⊎◌, ⊤, Bool, true, false, List, [], ◌∷◌, ◌++◌, take, Option, Some, IsSomeAnd, codes}
 use Rattle.weed_base.specs.Files.{Files}
 use Rattle.weed_base.specs.Moments.{first_moment, later_moments}
 use Rattle.name_core.specs.declared.change.Record.{Record}
@@ -127,10 +127,10 @@ EndsAfter Cut exit.ReadFault old last = Rests old last
 EndsAfter Cut exit.WriteFault old last =
     (answer : List ℕ) × (closes : Bool) × (count : ℕ) × Answers old last.left answer closes last.log last.moments
     × (last.sent ≡ old.sent ++ take count answer)
--- With the answer 500, and with the records of the request that met the fault in the log or not.
+-- With the answer 500, and with the records of the request that met the fault in the log or not. It adds some.
 EndsAfter Cut exit.DiskFault old last =
     (target : List ℕ) × (says : Answering) × Requests old.left target last.left
-    × IsReply old.log (first_moment old.moments) target says × SendsUnlessCut Cut old.sent disk_answer last.sent
+    × IsReply old.log (first_moment old.moments) target says × (says.added ≢ []) × SendsUnlessCut Cut old.sent disk_answer last.sent
     × ((last.log ≡ old.log) ⊎ (last.log ≡ old.log ++ says.added)) × (last.moments ≡ moments_after says old.moments)
 EndsAfter Cut (exit.BadWords place) old last = ⊥
 EndsAfter Cut (exit.Damaged file at) old last = ⊥

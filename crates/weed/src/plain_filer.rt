@@ -64,6 +64,7 @@ impl PlainFiler {
     ghost use Rattle.meta_log.specs.Records.{ReadsAs};
     ghost use Rattle.weed.specs.Filer.{IsFiled, IsFiledFrom, HoldsFiler, Makes, MakesImages, log_of};
     ghost use Rattle.weed.specs.Settling.{Settling, Tearing};
+    ghost use Rattle.weed.specs.Growth.{GrowsByRecords};
 
     /// Opens the log of a disk, and folds its records into names. Makes the log's first segment where none
     /// counts. Where the files are no log of records, `Damaged` names the first file and place to blame.
@@ -115,7 +116,7 @@ impl PlainFiler {
             (Tearing D.tick D.images D.image_since disk.old disk.new records) records result }
         ensures cause { IsCauseOf (D.faults disk.old) (D.faults disk.new) (IsErrOf result MakeFault.DiskFault) }
         ensures held { ¬ (IsErrOf result MakeFault.DiskFault) → (records : List Record) × HoldsFiler (D.files disk.new) self.new records }
-        ensures others { BothTold (LeavesOthers Log) (D.files disk.old) (D.files disk.new) }
+        ensures grows { BothTold GrowsByRecords (D.files disk.old) (D.files disk.new) }
         ensures beside { StaysBeside D.sent D.send_faults D.attachment disk.old disk.new }
         ensures calls { D.tick disk.new ≤ D.tick disk.old + 4 }
     {
@@ -149,7 +150,7 @@ impl PlainFiler {
             (Tearing D.tick D.images D.image_since disk.old disk.new records) records result }
         ensures cause { IsCauseOf (D.faults disk.old) (D.faults disk.new) (IsErrOf result MakeFault.DiskFault) }
         ensures held { ¬ (IsErrOf result MakeFault.DiskFault) → (records : List Record) × HoldsFiler (D.files disk.new) self.new records }
-        ensures others { BothTold (LeavesOthers Log) (D.files disk.old) (D.files disk.new) }
+        ensures grows { BothTold GrowsByRecords (D.files disk.old) (D.files disk.new) }
         ensures beside { StaysBeside D.sent D.send_faults D.attachment disk.old disk.new }
         ensures calls { D.tick disk.new ≤ D.tick disk.old + 4 }
     {

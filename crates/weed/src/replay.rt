@@ -1,16 +1,17 @@
-ghost use Rattle.std.specs.Prelude.{◌≡◌, ◌<◌, ◌∷◌, [], List, None, IfOk, IfErr, IsErrOf, MatchOption, MatchBool, MatchResult};
+ghost use Rattle.std.specs.Prelude.{◌≡◌, ◌<◌, ◌-◌, ◌∷◌, [], List, None, IfOk, IfErr, IsErrOf, MatchOption, MatchBool, MatchResult};
+ghost use Rattle.std.specs.FinMap.{empty};
 ghost use Rattle.weed_base.specs.Told.{IsCauseOf};
 ghost use Rattle.weed_base.specs.Images.{OnlyReads};
 ghost use Rattle.weed_base.specs.Beside.{StaysBeside};
 ghost use Rattle.name_core.specs.declared.change.Record.{Record};
 ghost use Rattle.name_core.specs.RecordText.{CanBeWritten};
 ghost use Rattle.meta_log.specs.Faults.{IfDamaged};
-ghost use Rattle.meta_log.specs.Kept.{HoldsRecords};
+ghost use Rattle.meta_log.specs.Kept.{HoldsRecords, front_of};
 ghost use Rattle.meta_log.specs.Records.{ReadsAs, IsRecord, IsNoRecord};
 ghost use Rattle.meta_log.specs.LogText.{segment_name};
 ghost use Rattle.meta_log.specs.declared.stem.Stem.TheVariants.{Log};
 ghost use Rattle.weed.specs.NameTable.{names_of};
-ghost use Rattle.weed.specs.Replay.{Takes, AreUnreadable, HoldsTaken, HoldsNames};
+ghost use Rattle.weed.specs.Replay.{Takes, TakesMany, AreUnreadable, HoldsTaken, HoldsNames};
 
 use crate::name_table::NameTable;
 use meta_log::{LogFault, MetaLog, Place};
@@ -32,6 +33,7 @@ struct Rest {
 pub fn replay<D: Disk>(alloc: Global, disk: &mut D, log: &MetaLog) -> Result<NameTable, LogFault>
     requires { (records : List Record) × HoldsRecords (D.files disk.old) log.now records }
     ensures names { IfOk result (HoldsNames (D.files disk.new) log.now) }
+    ensures all { IfOk result (λ names. TakesMany (front_of log.now).count empty (names_of names)) }
     ensures damaged { IfErr result (IfDamaged (λ _ _. D.files disk.old ≡ None)) }
 
     ensures files { D.files disk.new ≡ D.files disk.old }
@@ -62,6 +64,7 @@ fn take_page<D: Disk>(
     requires taken { HoldsTaken (D.files disk.old) log.now names.old rest.place rest.count }
     ensures taken { IfOk result (λ less. HoldsTaken (D.files disk.old) log.now names.new less.place less.count) }
     ensures less { IfOk result (λ less. less.count < rest.count) }
+    ensures page { IfOk result (λ less. TakesMany (rest.count - less.count) (names_of names.old) (names_of names.new)) }
     ensures damaged { IfErr result (IfDamaged (λ _ _. D.files disk.old ≡ None)) }
 
     ensures files { D.files disk.new ≡ D.files disk.old }

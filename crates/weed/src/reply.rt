@@ -3,8 +3,7 @@ ghost use Rattle.weed_base.specs.Files.{BothTold, Files};
 ghost use Rattle.weed_base.specs.Told.{IsCauseOf};
 ghost use Rattle.weed_base.specs.Beside.{StaysBeside};
 ghost use Rattle.name_core.specs.declared.change.Record.{Record};
-ghost use Rattle.meta_log.specs.Making.{LeavesOthers};
-ghost use Rattle.meta_log.specs.declared.stem.Stem.TheVariants.{Log};
+ghost use Rattle.weed.specs.Growth.{GrowsByRecords};
 ghost use Rattle.weed.specs.Reply.{path_text, bad_path, refusal_text};
 ghost use Rattle.name_core.specs.RecordText.{name_of};
 ghost use Rattle.weed.specs.Answer.{created_text, refused_text};
@@ -126,7 +125,7 @@ pub fn reply_to_target<D: Disk, C: Clock>(
         (D.files disk.new) (C.moments clock.new) filer.new result }
     ensures held { ¬ (IsErrOf result ReplyFault.DiskFault) → (records : List Record) × HoldsFiler (D.files disk.new) filer.new records }
     ensures cause { IsCauseOf (D.faults disk.old) (D.faults disk.new) (IsErrOf result ReplyFault.DiskFault) }
-    ensures others { BothTold (LeavesOthers Log) (D.files disk.old) (D.files disk.new) }
+    ensures grows { BothTold GrowsByRecords (D.files disk.old) (D.files disk.new) }
     ensures beside { StaysBeside D.sent D.send_faults D.attachment disk.old disk.new }
     ensures calls { D.tick disk.new ≤ D.tick disk.old + 4 }
 {
@@ -152,7 +151,7 @@ fn reply_to_path<D: Disk, C: Clock>(
         (D.files disk.new) (C.moments clock.new) filer.new result }
     ensures held { ¬ (IsErrOf result ReplyFault.DiskFault) → (records : List Record) × HoldsFiler (D.files disk.new) filer.new records }
     ensures cause { IsCauseOf (D.faults disk.old) (D.faults disk.new) (IsErrOf result ReplyFault.DiskFault) }
-    ensures others { BothTold (LeavesOthers Log) (D.files disk.old) (D.files disk.new) }
+    ensures grows { BothTold GrowsByRecords (D.files disk.old) (D.files disk.new) }
     ensures beside { StaysBeside D.sent D.send_faults D.attachment disk.old disk.new }
     ensures calls { D.tick disk.new ≤ D.tick disk.old + 4 }
 {

@@ -9,6 +9,7 @@ ghost use Rattle.meta_log.specs.Images.{HasLogOf, ImagesKeep, IsMadeFrom, IsOwn}
 ghost use Rattle.meta_log.specs.Kept.{HoldsRecordLog, IsRecordDamage, IsRecordLog};
 ghost use Rattle.meta_log.specs.Making.{LeavesOthers};
 ghost use Rattle.meta_log.specs.declared.stem.Stem.TheVariants.{Log};
+ghost use Rattle.weed.specs.Growth.{GrowsByRecords};
 ghost use Rattle.weed.specs.Words.{order_of};
 ghost use Rattle.weed.specs.Causes.{IsCauseBeside};
 ghost use Rattle.weed.specs.Crash.{Survives};
@@ -103,8 +104,8 @@ pub fn weed<S: Source, H: Host, C: Clock>(
     ensures read { IsCauseOf (S.faults world.source) (S.faults result.1.source) (result.0 ≡ Exit.ReadFault) }
     ensures write { IsCauseBeside (H.send_faults world.host) (H.send_faults result.1.host) (result.0 ≡ Exit.WriteFault) (result.0 ≡ Exit.DiskFault) }
 
-    // No file is touched but the log's own.
-    ensures others { BothTold (LeavesOthers Log) (H.files world.host) (H.files result.1.host) }
+    // The log grows by texts of records, each as it is written, and no other file is touched.
+    ensures grows { BothTold GrowsByRecords (H.files world.host) (H.files result.1.host) }
 
     // The run's first call of the disk turns the host to the directory of the words, and none turns it elsewhere;
     // or the run ends before it reads or sends anything.
@@ -147,7 +148,7 @@ fn filer_once<S: Source, H: Host, C: Clock>(
     ensures disk { IsCauseOf (H.faults world.old.host) (H.faults world.new.host) (result ≡ Exit.DiskFault) }
     ensures read { IsCauseOf (S.faults world.old.source) (S.faults world.new.source) (result ≡ Exit.ReadFault) }
     ensures write { IsCauseBeside (H.send_faults world.old.host) (H.send_faults world.new.host) (result ≡ Exit.WriteFault) (result ≡ Exit.DiskFault) }
-    ensures others { BothTold (LeavesOthers Log) (H.files world.old.host) (H.files world.new.host) }
+    ensures grows { BothTold GrowsByRecords (H.files world.old.host) (H.files world.new.host) }
     ensures attached { (H.attachment world.new.host ≡ attached_to dir.now (H.tick world.old.host) (H.attachment world.old.host))
         ⊎ ((H.attachment world.new.host ≡ H.attachment world.old.host)
         × EndsUnread result (H.sent world.old.host) (H.sent world.new.host) world.old.source world.new.source) }

@@ -5,8 +5,7 @@ ghost use Rattle.weed_base.specs.Images.{StandsStill};
 ghost use Rattle.weed_base.specs.Sent.{bytes_sent};
 ghost use Rattle.name_core.specs.declared.change.Record.{Record};
 ghost use Rattle.meta_log.specs.Images.{ImagesKeep};
-ghost use Rattle.meta_log.specs.Making.{LeavesOthers};
-ghost use Rattle.meta_log.specs.declared.stem.Stem.TheVariants.{Log};
+ghost use Rattle.weed.specs.Growth.{GrowsByRecords};
 ghost use Rattle.weed.specs.Causes.{IsCauseBeside};
 ghost use Rattle.weed.specs.Crash.{Withstands};
 ghost use Rattle.weed.specs.Filer.{HoldsFiler};
@@ -82,7 +81,7 @@ pub fn run<S: Source, H: Host, C: Clock>(
     ensures disk { IsCauseOf (H.faults world.old.host) (H.faults world.new.host) (result ≡ Exit.DiskFault) }
     ensures read { IsCauseOf (S.faults world.old.source) (S.faults world.new.source) (result ≡ Exit.ReadFault) }
     ensures write { IsCauseBeside (H.send_faults world.old.host) (H.send_faults world.new.host) (result ≡ Exit.WriteFault) (result ≡ Exit.DiskFault) }
-    ensures others { BothTold (LeavesOthers Log) (H.files world.old.host) (H.files world.new.host) }
+    ensures grows { BothTold GrowsByRecords (H.files world.old.host) (H.files world.new.host) }
     ensures attachment { H.attachment world.new.host ≡ H.attachment world.old.host }
     ensures kind { IsSessionEnd result }
 {
@@ -115,7 +114,7 @@ fn turn<S: Source, H: Host, C: Clock>(
     ensures read { IsCauseOf (S.faults world.old.source) (S.faults world.new.source) (result ≡ Turned.Ended Exit.ReadFault) }
     ensures write { IsCauseBeside (H.send_faults world.old.host) (H.send_faults world.new.host)
         (result ≡ Turned.Ended Exit.WriteFault) (result ≡ Turned.Ended Exit.DiskFault) }
-    ensures others { BothTold (LeavesOthers Log) (H.files world.old.host) (H.files world.new.host) }
+    ensures grows { BothTold GrowsByRecords (H.files world.old.host) (H.files world.new.host) }
     ensures attachment { H.attachment world.new.host ≡ H.attachment world.old.host }
     ensures calls { H.tick world.new.host ≤ H.tick world.old.host + 4 }
     ensures kind { IsTurnEnd result }
@@ -148,7 +147,7 @@ fn answer_request<S: Source, H: Host, C: Clock>(
     ensures write { IsCauseBeside (H.send_faults world.old.host) (H.send_faults world.new.host)
         (result ≡ Turned.Ended Exit.WriteFault) (result ≡ Turned.Ended Exit.DiskFault) }
     ensures source { world.new.source ≡ world.old.source }
-    ensures others { BothTold (LeavesOthers Log) (H.files world.old.host) (H.files world.new.host) }
+    ensures grows { BothTold GrowsByRecords (H.files world.old.host) (H.files world.new.host) }
     ensures attachment { H.attachment world.new.host ≡ H.attachment world.old.host }
     ensures calls { H.tick world.new.host ≤ H.tick world.old.host + 4 }
     ensures kind { IsTurnEnd result }

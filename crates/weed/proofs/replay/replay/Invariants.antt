@@ -1,6 +1,9 @@
-use Rattle.std.proofs.Common.{◌≡◌}
+use Rattle.std.proofs.Common.{◌≡◌, ◌-◌}
+use Rattle.std.specs.FinMap.{empty}
 use Rattle.weed_base.specs.Images.{OnlyReads}
-use Rattle.weed.specs.Replay.{HoldsTaken}
+use Rattle.meta_log.specs.Kept.{front_of}
+use Rattle.weed.specs.NameTable.{names_of}
+use Rattle.weed.specs.Replay.{HoldsTaken, TakesMany}
 use Rattle.weed.proofs.replay.replay.Given as goal
 
 abbrev pub invariant-loop-rest : goal.invariant-loop-rest
@@ -9,6 +12,7 @@ invariant-loop-rest g l =
     record {
       files : disk.files l.disk ≡ disk.files l.fn.disk;
       taken : HoldsTaken (disk.files l.fn.disk) l.log l.names l.rest.place l.rest.count;
+      all : TakesMany ((front_of l.log).count - l.rest.count) empty (names_of l.names);
       still : OnlyReads disk.tick disk.images disk.image_since l.fn.disk l.disk;
       faults : disk.faults l.disk ≡ disk.faults l.fn.disk;
       sent : disk.sent l.disk ≡ disk.sent l.fn.disk;

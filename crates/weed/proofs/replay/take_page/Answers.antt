@@ -24,6 +24,11 @@ returns-then-is_empty-clause-damaged g c =
           c.requires.taken c.in_ok-page.ensures.next (subst AreUnreadable texts_are unread)
     ])
 
+pub returns-clause-page : goal.returns-clause-page
+returns-clause-page g c =
+    let takes : Takes c.as_slice-texts.result.now (names_of c.args.names.now) (names_of c.take_texts.new.names) = rw c.if-not-branch.false at c.in_ok-take_texts.ensures in
+    (c.as_slice-texts.result.now, takes, omega (arith, c.saturating_sub.ensures))
+
 pub returns-clause-taken : goal.returns-clause-taken
 returns-clause-taken g c =
     let told = g.D.Disk.files c.args.disk.now in

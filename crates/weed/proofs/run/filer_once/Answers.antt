@@ -5,6 +5,7 @@ use Rattle.meta_log.specs.Making.{LeavesOthers}
 use Rattle.meta_log.specs.declared.stem.Stem.TheVariants.{Log}
 use Rattle.weed.specs.Tells.{Ends}
 use Rattle.weed.proofs.RunLemmas.{found_log, no_log_stays, begun_tells, early_stands, session_is_sound, session_has_words}
+use Rattle.weed.proofs.GrowthLemmas.{grows_opened, grows_twice}
 use Rattle.weed.proofs.SessionLemmas.{same_rests}
 use Rattle.weed.proofs.CrashLemmas.{reads_nothing}
 use Rattle.weed.proofs.SurvivalLemmas.{log_told, own_is_sound, survives_early, survives_session}
@@ -82,3 +83,12 @@ returns-in-Ok-clause-unserved g c unserved = absurd (unserved c.run.ensures.kind
 
 pub returns-in-Err-clause-unserved : goal.returns-in-Err-clause-unserved
 returns-in-Err-clause-unserved g c unserved = record { early = c.in-Err.ensures.early; unsent = c.in-Err.ensures.sent.0; unread = refl {a = c.args.world.now.source} }
+
+pub returns-in-Ok-clause-grows : goal.returns-in-Ok-clause-grows
+returns-in-Ok-clause-grows g c =
+    let files = g.H.Disk.files in
+    let opened = grows_opened (files c.args.world.now.host) (files c.begin.new.host) c.begin.ensures.others c.begin.ensures.made in
+    grows_twice (files c.args.world.now.host) (files c.begin.new.host) (files c.run.new.world.host) opened c.run.ensures.grows
+
+pub returns-in-Err-clause-grows : goal.returns-in-Err-clause-grows
+returns-in-Err-clause-grows g c = grows_opened (g.H.Disk.files c.args.world.now.host) (g.H.Disk.files c.begin.new.host) c.begin.ensures.others c.begin.ensures.made

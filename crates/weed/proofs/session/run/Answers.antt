@@ -8,7 +8,7 @@ use Rattle.weed.specs.declared.exit.Exit.TheVariants.{DiskFault, ReadFault, Writ
 use Rattle.weed.proofs.SessionLemmas.{rests, open_is_no_end}
 use Rattle.weed.specs.Tells.{Tells}
 use Rattle.weed.proofs.InboxLemmas.{needs_nothing}
-use Rattle.weed.proofs.OthersLemmas.{others_stay, others_twice}
+use Rattle.weed.proofs.GrowthLemmas.{grows_not, grows_twice}
 use Rattle.weed.proofs.CrashLemmas.{keeping_begins, keeping_more, last_of-push, steps-push, reads-push, ends_after, spent_ends}
 use Rattle.weed.proofs.session.run.Goals as goal
 
@@ -21,7 +21,7 @@ loop-turn-init g c =
       faults = refl;
       read_faults = refl;
       send_faults = refl;
-      others = others_stay (disk.files c.args.world.now.host);
+      grows = grows_not (disk.files c.args.world.now.host);
       attachment = refl;
     }
 
@@ -48,7 +48,7 @@ loop-turn-preserved g c =
       faults = c.in-Open.ensures.disk.quiet (open_is_no_end DiskFault) ∙ c.loop-turn.invariant.faults;
       read_faults = c.in-Open.ensures.read.quiet (open_is_no_end ReadFault) ∙ c.loop-turn.invariant.read_faults;
       send_faults = c.in-Open.ensures.write.quiet (open_is_no_end WriteFault) (open_is_no_end DiskFault) ∙ c.loop-turn.invariant.send_faults;
-      others = others_twice (disk.files start) (disk.files mid) (disk.files now) c.loop-turn.invariant.others c.in-Open.ensures.others;
+      grows = grows_twice (disk.files start) (disk.files mid) (disk.files now) c.loop-turn.invariant.grows c.in-Open.ensures.grows;
       attachment = c.in-Open.ensures.attachment ∙ c.loop-turn.invariant.attachment;
     }
 
@@ -91,3 +91,8 @@ returns-clause-ends g c first tells =
       λ keep. spent_ends disk.tick disk.images disk.image_since disk.sent g.met.H.Disk.only_now c.args.world.now.host now first before.0 (before.4 keep) before.1.sent_is,
       (c.loop-turn.world.source, before.5, needs_nothing g.S.Source.left g.S.Source.reads (Some (last_of first before.0).left) c.loop-turn.world.source),
     )
+
+pub returns-in-Ended-clause-grows : goal.returns-in-Ended-clause-grows
+returns-in-Ended-clause-grows g c =
+    let files = g.H.Disk.files in
+    grows_twice (files c.args.world.now.host) (files c.loop-turn.world.host) (files c.turn.new.world.host) c.loop-turn.invariant.grows c.in-Ended.ensures.grows

@@ -3,8 +3,8 @@ use Rattle.weed_base.specs.Files.{BothTold}
 use Rattle.weed_base.specs.Sent.{bytes_sent}
 use Rattle.name_core.specs.declared.change.Record.{Record}
 use Rattle.meta_log.specs.Images.{ImagesKeep}
-use Rattle.meta_log.specs.Making.{LeavesOthers}
 use Rattle.meta_log.specs.declared.stem.Stem.TheVariants.{Log}
+use Rattle.weed.specs.Growth.{GrowsByRecords}
 use Rattle.weed.specs.Filer.{HoldsFiler}
 use Rattle.weed.specs.Session.{State, Turns, ReadsAlong, last_of}
 use Rattle.weed.specs.Tells.{Tells}
@@ -24,6 +24,6 @@ invariant-loop-turn g l =
       faults : disk.faults l.world.host ≡ disk.faults l.fn.world.host;
       read_faults : g.S.Source.faults l.world.source ≡ g.S.Source.faults l.fn.world.source;
       send_faults : disk.send_faults l.world.host ≡ disk.send_faults l.fn.world.host;
-      others : BothTold (LeavesOthers Log) (disk.files l.fn.world.host) (disk.files l.world.host);
+      grows : BothTold GrowsByRecords (disk.files l.fn.world.host) (disk.files l.world.host);
       attachment : disk.attachment l.world.host ≡ disk.attachment l.fn.world.host;
     }

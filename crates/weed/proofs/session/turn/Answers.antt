@@ -1,7 +1,10 @@
-use Rattle.std.proofs.Common.{refl, ◌∙◌}
+use Rattle.std.proofs.Common.{refl, sym, subst, ◌∙◌}
 use Rattle.weed_base.specs.Told.{Rose}
+use Rattle.weed_base.specs.Files.{BothTold}
 use Rattle.weed_base.specs.Sent.{bytes_sent}
+use Rattle.weed.specs.Growth.{GrowsByRecords}
 use Rattle.weed.specs.Settling.{Settling, Tearing}
+use Rattle.weed.proofs.GrowthLemmas.{grows_not}
 use Rattle.weed.proofs.HandedLemmas.{sends_nothing}
 use Rattle.weed.proofs.SettlingLemmas.{settles_nothing, settles_sent}
 use Rattle.weed.proofs.SessionLemmas.{asking_found, refused_leads, ended_leads, unread_leads}
@@ -47,3 +50,8 @@ returns-in-Err-clause-leads g c old tells =
 
 pub returns-in-Err-clause-pieces : goal.returns-in-Err-clause-pieces
 returns-in-Err-clause-pieces g c = sends_nothing (g.H.Disk.tick c.args.world.now.host) (g.H.Disk.sent c.args.world.now.host)
+
+pub returns-in-Ok-NotYet-clause-grows : goal.returns-in-Ok-NotYet-clause-grows
+returns-in-Ok-NotYet-clause-grows g c =
+    let files = g.H.Disk.files c.args.world.now.host in
+    subst (BothTold GrowsByRecords files) (sym c.send_answer.ensures.files) (grows_not files)
