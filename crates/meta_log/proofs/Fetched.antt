@@ -1,15 +1,16 @@
 -- What is read of a log from a place on.
-use Rattle.std.proofs.Common.{◌≡◌, ℕ, zero, suc, ◌+◌, ◌<◌, min, List, [], ◌∷◌, ◌++◌, length, take, drop, refl, sym, ◌∙◌, ap, subst, arith, append_assoc, length-append, take-append-drop, Option, Some, None}
-use Rattle.std.specs.Prelude.{IfSome, All}
+use Rattle.std.proofs.Common.{◌≡◌, ◌⊎◌, inl, inr, ℕ, zero, suc, ◌+◌, ◌≤◌, ◌<◌, min, List, [], ◌∷◌, ◌++◌, length, take, drop, refl, sym, ◌∙◌, ap, subst, arith, append_assoc, length-append, take-append-drop, Option, Some, None}
+use Rattle.std.specs.Prelude.{IfSome, All, sum_by}
 use Rattle.std.proofs.lemmas.Bool.Decides.{nat_tests}
 use Rattle.std.proofs.lemmas.List.{drop_at}
+use Rattle.std.proofs.lemmas.List.Sums.{sum_by-cons}
 use Rattle.std.proofs.lemmas.List.Elements.{All-drop}
 use Rattle.weed_base.specs.Files.{Files, content}
 use Rattle.meta_log.specs.Segment.{IsShort, item, items}
 use Rattle.meta_log.specs.LogText.{segment_name}
 use Rattle.meta_log.specs.Stretch.{Stretch, IsOf}
 use Rattle.meta_log.specs.Held.{IsHeld}
-use Rattle.meta_log.specs.Left.{IsLeft, batch_from}
+use Rattle.meta_log.specs.Left.{IsLeft, batch_from, IsWhole}
 use Rattle.meta_log.specs.Places.{place_behind, HoldsPlace, IsNext}
 use Rattle.meta_log.specs.declared.gate_log.GateLog.{GateLog}
 use Rattle.meta_log.specs.declared.place.Place.{Place}
@@ -103,3 +104,19 @@ told_behind (Some files) now log place next room texts same holds is_next =
     let whole : holds.0 ++ holds.1 ≡ (holds.0 ++ take room holds.1) ++ drop room holds.1 =
     ap (λ (l : List (List ℕ)). holds.0 ++ l) (sym (take-append-drop room holds.1)) ∙ sym (append_assoc holds.0 (take room holds.1) (drop room holds.1)) in
     subst (λ o. HoldsPlace o log next) (sym same) (holds.0 ++ take room holds.1, drop room holds.1, subst (IsHeld files log) whole holds.2, found.1)
+
+-- the items of texts are longer than the texts
+bytes_within : (texts : List (List ℕ)) → sum_by length texts ≤ length (items texts)
+bytes_within [] = omega arith
+bytes_within (text ∷ texts) = omega (arith, bytes_within texts, sum_by-cons length text texts, length-append (item text) (items texts), length-framed text)
+
+items_past : (texts : List (List ℕ)) (most : ℕ) → 0 < most → most ≤ sum_by length texts → most + 5 ≤ length (items texts)
+items_past [] most some reach = absurd (omega (arith, some, reach))
+items_past (text ∷ texts) most some reach = omega (arith, reach, bytes_within texts, sum_by-cons length text texts, length-append (item text) (items texts), length-framed text)
+
+-- Where no file is so long that they reach the bound, they fill the room, or the gate is reached.
+pub whole_by_room : (room most gate at begun next : ℕ) (collected texts : List (List ℕ)) → texts ≡ collected → next ≡ at → at ≡ begun + length (items collected) → 0 < most → next < most + 5
+    → IsWhole room most gate at collected → (length texts ≡ room) ⊎ (gate ≤ next)
+whole_by_room room most gate at begun next collected texts same next_is at_is some below (inl full) = inl (ap length same ∙ full)
+whole_by_room room most gate at begun next collected texts same next_is at_is some below (inr (inl reach)) = absurd (omega (arith, items_past collected most some reach, at_is, next_is, below))
+whole_by_room room most gate at begun next collected texts same next_is at_is some below (inr (inr end)) = inr (omega (arith, end, next_is))

@@ -76,6 +76,12 @@ told_meets None name gate at place head result now inside is result_is next = tt
 told_meets (Some files) name gate at place head result now inside is result_is next = λ left here.
     subst (MeetsNext left) (sym result_is) (meets (content files name) gate place left head (omega (arith, inside, is)) here next.1)
 
+-- among items a head is never a closed gate
+pub never_closed : (head : Head) → ¬ (among_items head ≡ Closed)
+never_closed Closed = λ same. cc
+never_closed Broken = λ same. cc
+never_closed (Item size) = λ same. cc
+
 -- What was taken, over a disk that is told or isn't: `old` before the next head was looked at, `now` after, and `later` behind the item.
 closed_next : (left : List (List ℕ)) (head : Head) → head ≡ Closed → MeetsNext left head → left ≡ []
 closed_next left head is met = subst (MeetsNext left) is met

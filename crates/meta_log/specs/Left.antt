@@ -1,5 +1,5 @@
 -- Payloads that are left to be read.
-use Rattle.std.specs.Prelude.{◌≡◌, ℕ, ◌+◌, List, [], ◌∷◌, ◌++◌, length, drop, All, nat_le, if◌then◌else◌, zero, suc, Option, None, Some}
+use Rattle.std.specs.Prelude.{◌≡◌, ℕ, ◌+◌, ◌≤◌, ◌⊎◌, List, [], ◌∷◌, ◌++◌, length, drop, All, sum_by, nat_le, if◌then◌else◌, zero, suc, Option, None, Some}
 use Rattle.meta_log.specs.Segment.{IsShort, items}
 use Rattle.meta_log.specs.declared.head.Head.{Head}
 use Rattle.meta_log.specs.declared.head.Head.TheVariants.{Closed, Broken, Item}
@@ -37,3 +37,7 @@ batch_from most (suc room) had (text ∷ texts) = if nat_le most had then [] els
 -- The first of the texts, at most so many, and no more once they reach 67,108,864 bytes.
 abbrev pub batch : ℕ → List (List ℕ) → List (List ℕ)
 batch room texts = batch_from 67108864 room 0 texts
+
+-- The texts fill the room, or have so many bytes, or the place behind them is the gate or past it.
+abbrev pub IsWhole : ℕ → ℕ → ℕ → ℕ → List (List ℕ) → Type 0
+IsWhole room most gate at texts = (length texts ≡ room) ⊎ (most ≤ sum_by length texts) ⊎ (gate ≤ at)

@@ -1,4 +1,4 @@
-ghost use Rattle.std.specs.Prelude.{◌≡◌, ◌≤◌, ◌<◌, ◌+◌, ◌-◌, ◌^◌, ◌++◌, ◌∷◌, [], List, ℕ, IfOk, OnOk, IfErr, OnErr, IsErrOf, IfSome, None, Some};
+ghost use Rattle.std.specs.Prelude.{◌≡◌, ◌≤◌, ◌<◌, ◌+◌, ◌-◌, ◌^◌, ◌⊎◌, ◌++◌, ◌∷◌, [], List, length, ℕ, IfOk, OnOk, IfErr, OnErr, IsErrOf, IfSome, None, Some};
 ghost use Rattle.weed_base.specs.Told.{HasCause, IsCauseOf};
 ghost use Rattle.weed_base.specs.Files.{BothTold, Files};
 ghost use Rattle.weed_base.specs.Images.{LeavesOnly, OnlyReads};
@@ -121,6 +121,10 @@ impl GateLog {
         ensures behind { IfOk result (λ read. HoldsPlace (D.files disk.new) self.now read.1) }
         ensures damaged { IfErr result (IfDamaged (λ _ _. D.files disk.old ≡ None)) }
 
+        // Over any disk the room is filled or the gate is reached, and damage is that of the log's file.
+        ensures whole { IfOk result (λ read. (length read.0 ≡ room) ⊎ (gate_of self.now ≤ read.1.at)) }
+        ensures blamed { IfErr result (IfDamaged (λ file _. file ≡ segment_name (stem_of self.now) 1)) }
+
         ensures files { D.files disk.new ≡ D.files disk.old }
         ensures still { OnlyReads D.tick D.images D.image_since disk.old disk.new }
         ensures cause { IsCauseOf (D.faults disk.old) (D.faults disk.new) (IsErrOf result LogFault.DiskFault) }
@@ -128,15 +132,7 @@ impl GateLog {
     {
         let name = first_segment(self.stem);
         let mut reading = Reading::begin(alloc, disk, &name, place.at)?;
-        let texts = collect(
-            alloc,
-            disk,
-            &name,
-            self.gate,
-            &mut reading,
-            room,
-            u64::MAX,
-        )?;
+        let texts = collect(alloc, disk, &name, self.gate, &mut reading, room, u64::MAX)?;
         let next = Place {
             segment: 1,
             at: reading.at(),

@@ -1,11 +1,11 @@
-ghost use Rattle.std.specs.Prelude.{◌≡◌, ◌<◌, ◌+◌, ◌^◌, length, List, ℕ, IfOk, IfErr, IsErrOf, IfSome, MatchOption, None};
+ghost use Rattle.std.specs.Prelude.{◌≡◌, ◌≤◌, ◌<◌, ◌+◌, ◌^◌, length, List, ℕ, IfOk, IfErr, IsErrOf, IfSome, MatchOption, None};
 ghost use Rattle.weed_base.specs.Told.{IsCauseOf};
 ghost use Rattle.weed_base.specs.Files.{content};
 ghost use Rattle.weed_base.specs.Images.{OnlyReads};
 ghost use Rattle.weed_base.specs.Beside.{StaysBeside};
 ghost use Rattle.meta_log.specs.Stretch.{IsOf};
 ghost use Rattle.meta_log.specs.Head.{HasItem};
-ghost use Rattle.meta_log.specs.Left.{among_items, IsLeft, MeetsNext, TakesNext, batch_from};
+ghost use Rattle.meta_log.specs.Left.{among_items, IsLeft, MeetsNext, TakesNext, batch_from, IsWhole};
 ghost use Rattle.meta_log.specs.LogText.{segment_name};
 ghost use Rattle.meta_log.specs.Segment.{items};
 ghost use Rattle.meta_log.specs.Faults.{IfDamaged};
@@ -38,6 +38,7 @@ pub fn left_head<D: Disk>(
     ensures of { IfOk result (λ _. IfSome (D.files disk.old) (λ files. IsOf (content files name.now) reading.new)) }
     ensures meets { IfOk result (λ head. IfSome (D.files disk.old) (λ files.
         (left : List (List ℕ)) → IsLeft (content files name.now) gate reading.old.at left → MeetsNext left head)) }
+    ensures closed { IfOk result (λ head. head ≡ Head.Closed → gate ≤ reading.new.at) }
     ensures there { IfOk result (HasItem reading.new.held) }
     ensures place { IfOk result (λ _. (reading.new.at ≡ reading.old.at) × (reading.new.size ≡ reading.old.size)) }
     ensures undamaged { IfErr result (IfDamaged (λ _ _. ⊥)) }
@@ -64,10 +65,12 @@ fn take_text<D: Disk>(
     ensures of { IfOk result (λ _. IfSome (D.files disk.old) (λ files. IsOf (content files name.now) reading.new)) }
     ensures takes { IfOk result (λ taken. IfSome (D.files disk.old) (λ files.
         (left : List (List ℕ)) → IsLeft (content files name.now) gate reading.old.at left → TakesNext (content files name.now) gate reading.new.at left taken)) }
+    ensures ended { IfOk result (λ taken. taken ≡ None → gate ≤ reading.new.at) }
     ensures place { IfOk result (λ taken. MatchOption taken (reading.new.at ≡ reading.old.at)
         (λ text. (reading.new.at ≡ reading.old.at + (5 + length text)) × (reading.new.at < 2 ^ 64))) }
     ensures damaged { IfErr result (IfDamaged (λ _ _. IfSome (D.files disk.old) (λ files.
         (left : List (List ℕ)) → ¬ IsLeft (content files name.now) gate reading.old.at left))) }
+    ensures blamed { IfErr result (IfDamaged (λ file at. (file ≡ name.now) × (at ≡ reading.new.at))) }
     ensures files { D.files disk.new ≡ D.files disk.old }
     ensures still { OnlyReads D.tick D.images D.image_since disk.old disk.new }
     ensures cause { IsCauseOf (D.faults disk.old) (D.faults disk.new) (IsErrOf result LogFault.DiskFault) }
@@ -100,9 +103,11 @@ pub fn collect<D: Disk>(
     requires of { IfSome (D.files disk.old) (λ files. IsOf (content files name.now) reading.old) }
     ensures texts { IfOk result (λ texts. IfSome (D.files disk.old) (λ files.
         (left : List (List ℕ)) → IsLeft (content files name.now) gate reading.old.at left → texts.items ≡ batch_from most room 0 left)) }
+    ensures whole { IfOk result (λ texts. IsWhole room most gate reading.new.at texts.items) }
     ensures place { IfOk result (λ texts. reading.new.at ≡ reading.old.at + length (items texts.items)) }
     ensures damaged { IfErr result (IfDamaged (λ _ _. IfSome (D.files disk.old) (λ files.
         (left : List (List ℕ)) → ¬ IsLeft (content files name.now) gate reading.old.at left))) }
+    ensures blamed { IfErr result (IfDamaged (λ file at. (file ≡ name.now) × (at ≡ reading.new.at))) }
     ensures files { D.files disk.new ≡ D.files disk.old }
     ensures still { OnlyReads D.tick D.images D.image_since disk.old disk.new }
     ensures cause { IsCauseOf (D.faults disk.old) (D.faults disk.new) (IsErrOf result LogFault.DiskFault) }

@@ -1,4 +1,4 @@
-ghost use Rattle.std.specs.Prelude.{◌≡◌, ◌<◌, ◌≤◌, ◌+◌, ◌++◌, ◌∷◌, [], List, Bool, false, None, Some, IfOk, OnOk, IfErr, OnErr, IsErrOf, IfSome};
+ghost use Rattle.std.specs.Prelude.{◌≡◌, ◌<◌, ◌≤◌, ◌+◌, ◌⊎◌, ◌++◌, ◌∷◌, [], List, length, Bool, false, None, Some, IfOk, OnOk, IfErr, OnErr, IsErrOf, IfSome};
 ghost use Rattle.weed_base.specs.Told.{HasCause, IsCauseOf};
 ghost use Rattle.weed_base.specs.Files.{BothTold, Files};
 ghost use Rattle.weed_base.specs.Images.{LeavesOnly, OnlyReads};
@@ -38,6 +38,7 @@ pub struct MetaLog {
 
 impl MetaLog {
     ghost use Rattle.meta_log.specs.Faults.{IfDamaged};
+    ghost use Rattle.meta_log.specs.Held.{gate_of};
     ghost use Rattle.meta_log.specs.Kept.{front_of, IsRecordLog, HoldsRecordLog, Keeps, HoldsRecords, HoldsEitherLog, IsOpenedFrom, IsKept, IsRecordDamage, IsPast, IsEitherLog};
     ghost use Rattle.meta_log.specs.Images.{ComesBy, ImagesKeep, IsMadeFrom, HasLogOf, IsOwn};
     ghost use Rattle.meta_log.specs.Places.{place_behind};
@@ -139,6 +140,7 @@ impl MetaLog {
         requires { Keeps (D.files disk.old) self.now }
         ensures past { IfOk result (λ texts. IsPast (D.files disk.old) self.now after room texts) }
         ensures damaged { IfErr result (IfDamaged (λ _ _. D.files disk.old ≡ None)) }
+        ensures blamed { IfErr result (IfDamaged (λ file _. file ≡ segment_name Log 1)) }
 
         ensures files { D.files disk.new ≡ D.files disk.old }
         ensures still { OnlyReads D.tick D.images D.image_since disk.old disk.new }
@@ -180,6 +182,10 @@ impl MetaLog {
         ensures next { IfOk result (λ read. AreNext (D.files disk.old) self.now place room read.0 read.1) }
         ensures behind { IfOk result (λ read. KeepsPlace (D.files disk.new) self.now read.1) }
         ensures damaged { IfErr result (IfDamaged (λ _ _. D.files disk.old ≡ None)) }
+
+        // Over any disk the room is filled or the gate is reached, and damage is that of the log's file.
+        ensures whole { IfOk result (λ read. (length read.0 ≡ room) ⊎ (gate_of self.now.log ≤ read.1.at)) }
+        ensures blamed { IfErr result (IfDamaged (λ file _. file ≡ segment_name Log 1)) }
 
         ensures files { D.files disk.new ≡ D.files disk.old }
         ensures still { OnlyReads D.tick D.images D.image_since disk.old disk.new }

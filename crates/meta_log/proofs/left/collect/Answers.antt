@@ -1,11 +1,12 @@
 use Rattle.std.proofs.Common.{◌≡◌, ◌+◌, ◌^◌, ◌<◌, ℕ, List, length, inl, inr, subst, ap, ◌∙◌, arith}
-use Rattle.std.specs.Prelude.{IfSome, MatchOption}
+use Rattle.std.specs.Prelude.{IfSome, MatchOption, sum_by}
 use Rattle.std.proofs.lemmas.Result.{err_from_is_err_and}
 use Rattle.std.proofs.lemmas.List.{length_push}
+use Rattle.std.proofs.lemmas.List.Sums.{sum_by_push}
 use Rattle.weed_base.specs.Files.{content}
 use Rattle.weed_base.proofs.ImageLemmas.{reads_both}
 use Rattle.meta_log.specs.Segment.{items}
-use Rattle.meta_log.specs.Stretch.{IsOf}
+use Rattle.meta_log.specs.Stretch.{Stretch, IsOf}
 use Rattle.meta_log.proofs.Frames.{length-items-push, length-ready}
 use Rattle.meta_log.proofs.Faulted.{damaged_on, ok_is_no_fault}
 use Rattle.meta_log.proofs.Collected.{told_goes_on, told_ends_full, told_ends_empty, told_refutes}
@@ -18,6 +19,19 @@ returns-in_err-text-clause-damaged g c =
     damaged_on _ _ c.from_residual.result p.0 c.in_err-text.field-0.0 p.1 p.2
     (λ file at. told_refutes (g.D.Disk.files c.args.disk.now) (g.D.Disk.files c.taking.disk) c.args.name.now c.args.gate c.args.reading.now.at c.args.most c.args.room c.taking.reading.at c.taking.bytes c.taking.texts.items c.taking.invariant.3 c.taking.invariant.5)
     c.in_err-text.ensures.damaged
+
+pub returns-in_err-text-clause-blamed : goal.returns-in_err-text-clause-blamed
+returns-in_err-text-clause-blamed g c =
+    let p = err_from_is_err_and c.from_residual.result c.from_residual.ensures.1 in
+    damaged_on _ _ c.from_residual.result p.0 c.in_err-text.field-0.0 p.1 p.2 (λ file at blamed. blamed) c.in_err-text.ensures.blamed
+
+pub returns-clause-whole : goal.returns-clause-whole
+returns-clause-whole g c =
+    elim c.taking-test.branch [
+      | then-taking-test+else-bytes-most w ↦ inr (inl (omega (arith, w.if-bytes-most.false, c.taking.invariant.9)))
+      | else-taking-test w ↦ inl (omega (arith, w.taking-test.false, c.len.ensures, c.taking.invariant.0))
+      | then-taking-test+then-bytes-most+in_ok-text+in_default w ↦ inr (inr (omega (arith, ap (λ (r : Stretch). r.at) w.reading-is, w.in_ok-text.ensures.ended w.in_default.is)))
+    ]
 
 pub returns-clause-texts : goal.returns-clause-texts
 returns-clause-texts g c =
@@ -50,4 +64,5 @@ taking-preserved g c =
       c.take_text.ensures.cause.quiet (ok_is_no_fault c.take_text.result _ _ c.in_ok-text.was) ∙ c.taking.invariant.6,
       ((c.take_text.ensures.beside.0.0 ∙ c.taking.invariant.7.0.0, c.take_text.ensures.beside.0.1 ∙ c.taking.invariant.7.0.1), c.take_text.ensures.beside.1 ∙ c.taking.invariant.7.1),
       reads_both g.D.Disk.tick g.D.Disk.images g.D.Disk.image_since c.args.disk.now c.taking.disk c.take_text.new.disk c.taking.invariant.8 c.take_text.ensures.still,
+      ap (λ (n : ℕ). c.taking.bytes + n) (ap length c.as_slice.ensures) ∙ omega (arith, c.taking.invariant.9, sum_by_push length texts text, ap (λ (l : List (List ℕ)). sum_by length l) pushed),
     )

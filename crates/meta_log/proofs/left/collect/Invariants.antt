@@ -1,5 +1,5 @@
 use Rattle.std.proofs.Common.{◌≡◌, ℕ, ◌+◌, ◌-◌, ◌≤◌, List, length}
-use Rattle.std.specs.Prelude.{IfSome}
+use Rattle.std.specs.Prelude.{IfSome, sum_by}
 use Rattle.weed_base.specs.Files.{content}
 use Rattle.weed_base.specs.Images.{OnlyReads}
 use Rattle.weed_base.specs.Beside.{StaysBeside}
@@ -22,6 +22,7 @@ invariant-taking g l =
     × (g.D.Disk.faults l.disk ≡ g.D.Disk.faults l.fn.disk)
     × StaysBeside g.D.Disk.sent g.D.Disk.send_faults g.D.Disk.attachment l.fn.disk l.disk
     × OnlyReads g.D.Disk.tick g.D.Disk.images g.D.Disk.image_since l.fn.disk l.disk
+    × (l.bytes ≡ sum_by length l.texts.items)
 
 abbrev pub decreases-taking : goal.decreases-taking
 decreases-taking g l = l.room - length l.texts.items

@@ -1,4 +1,5 @@
-use Rattle.meta_log.proofs.Lefts.{told_none_left, told_meets}
+use Rattle.std.proofs.Common.{sym, ◌∙◌}
+use Rattle.meta_log.proofs.Lefts.{told_none_left, told_meets, never_closed}
 use Rattle.meta_log.proofs.left.left_head.Goals as goal
 
 pub returns-then-at-gate-clause-meets : goal.returns-then-at-gate-clause-meets
@@ -8,3 +9,6 @@ pub returns-clause-meets : goal.returns-clause-meets
 returns-clause-meets g c =
     told_meets (g.D.Disk.files c.args.disk.now) c.args.name.now c.args.gate c.at.result c.args.reading.now.at c.in_ok-next_head.field-0 c.item_or_broken.result c.next_head.new.reading c.if-at-gate.false c.at.ensures.at
     c.item_or_broken.ensures c.in_ok-next_head.ensures.next
+
+pub returns-clause-closed : goal.returns-clause-closed
+returns-clause-closed g c same = absurd (never_closed c.in_ok-next_head.field-0 (sym c.item_or_broken.ensures ∙ same))

@@ -1,7 +1,7 @@
-use Rattle.std.proofs.Common.{◌∙◌}
+use Rattle.std.proofs.Common.{◌∙◌, arith}
 use Rattle.std.proofs.lemmas.Result.{err_from_is_err_and}
 use Rattle.meta_log.proofs.Faulted.{damaged_on}
-use Rattle.meta_log.proofs.Fetched.{told_next, told_undamaged, told_behind}
+use Rattle.meta_log.proofs.Fetched.{told_next, told_undamaged, told_behind, whole_by_room}
 use Rattle.meta_log.proofs.gate_log.GateLog.read_from.Goals as goal
 
 pub returns-in_err-texts-clause-damaged : goal.returns-in_err-texts-clause-damaged
@@ -22,3 +22,13 @@ returns-clause-behind g c =
     told_behind (g.D.Disk.files c.args.disk.now) (g.D.Disk.files c.collect.new.disk) c.args.self.now c.args.place _ c.args.room c.of.result (c.collect.ensures.files ∙ c.begin.ensures.files) c.requires
     (told_next (g.D.Disk.files c.args.disk.now) (g.D.Disk.files c.begin.new.disk) c.first_segment-name.result c.args.self.now c.first_segment-name.ensures c.args.place c.in_ok-reading.reading c.args.room _ c.args.self.now.bounded
     c.in_ok-texts.texts.items c.of.result c.at.result c.begin.ensures.files c.of.ensures c.in_ok-reading.ensures.of c.in_ok-texts.ensures.texts (c.at.ensures.at ∙ c.in_ok-texts.ensures.place))
+
+pub returns-clause-whole : goal.returns-clause-whole
+returns-clause-whole g c =
+    whole_by_room c.args.room _ c.args.self.now.gate c.collect.new.reading.at c.in_ok-reading.reading.at c.at.result c.in_ok-texts.texts.items c.of.result c.of.ensures c.at.ensures.at c.in_ok-texts.ensures.place
+    (omega arith) (omega arith) c.in_ok-texts.ensures.whole
+
+pub returns-in_err-texts-clause-blamed : goal.returns-in_err-texts-clause-blamed
+returns-in_err-texts-clause-blamed g c =
+    let p = err_from_is_err_and c.from_residual-in_err-texts.result c.from_residual-in_err-texts.ensures.1 in
+    damaged_on _ _ c.from_residual-in_err-texts.result p.0 c.in_err-texts.field-0.0 p.1 p.2 (λ file at blamed. blamed.0 ∙ c.first_segment-name.ensures) c.in_err-texts.ensures.blamed

@@ -19,3 +19,8 @@ returns-clause-past g c =
     let name_is = c.first_segment-name.ensures ∙ ap (λ s. segment_name s 1) (sym c.args.self.now.is_log) in
     told_past (g.D.Disk.files c.args.disk.now) (g.D.Disk.files c.begin.new.disk) (g.D.Disk.files c.skip_past.new.disk) c.first_segment-name.result c.args.self.now name_is c.in_ok-reading.reading c.skip_past.new.reading c.args.after c.args.room
     c.in_ok-texts.texts.items c.of.result c.begin.ensures.files c.skip_past.ensures.files c.of.ensures c.in_ok-reading.ensures.of c.in_ok-skip_past.ensures.skipped c.in_ok-texts.ensures.texts
+
+pub returns-in_err-texts-clause-blamed : goal.returns-in_err-texts-clause-blamed
+returns-in_err-texts-clause-blamed g c =
+    let p = err_from_is_err_and c.from_residual-in_err-texts.result c.from_residual-in_err-texts.ensures.1 in
+    damaged_on _ _ c.from_residual-in_err-texts.result p.0 c.in_err-texts.field-0.0 p.1 p.2 (λ file at blamed. blamed.0 ∙ c.first_segment-name.ensures) c.in_err-texts.ensures.blamed
