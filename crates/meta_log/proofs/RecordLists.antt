@@ -5,15 +5,17 @@ use Rattle.std.proofs.lemmas.List.{length_push}
 use Rattle.weed_base.specs.Files.{Files, BothTold}
 use Rattle.name_core.specs.declared.change.Record.{Record}
 use Rattle.name_core.specs.Log.{TimesRise, last_time, last_time_from, end_of_time}
-use Rattle.meta_log.specs.LogText.{segment_name, IsLogText, ChangesOnly}
-use Rattle.meta_log.specs.Held.{HoldsLog, HoldsEither, stem_of}
+use Rattle.meta_log.specs.LogText.{segment_name, IsAllowed, HasSegment, IsLogText, ChangesOnly}
+use Rattle.meta_log.specs.Held.{IsHeld, HoldsLog, HoldsText, IsEither, HoldsEither, stem_of}
 use Rattle.meta_log.specs.Records.{ReadsAs, IsNoRecord, ReadAs, AreRecords, HasFront}
-use Rattle.meta_log.specs.Kept.{HoldsRecords, HoldsEitherLog, front_of}
+use Rattle.meta_log.specs.Kept.{IsKept, HoldsRecords, HoldsEitherLog, front_of}
 use Rattle.meta_log.proofs.RecordTimes.{time_bounded}
 use Rattle.meta_log.specs.declared.stem.Stem.{Stem}
 use Rattle.meta_log.specs.declared.stem.Stem.TheVariants.{Log}
 use Rattle.meta_log.specs.declared.front.Front.{Front}
+use Rattle.meta_log.specs.declared.gate_log.GateLog.{GateLog}
 use Rattle.meta_log.specs.declared.meta_log.MetaLog.{MetaLog}
+use Rattle.meta_log.proofs.Unique.{text_unique}
 
 pub ReadAs-push : (payloads : List (List ℕ)) (records : List Record) (text : List ℕ) (known : Record) → ReadAs payloads records → ReadsAs text known → ReadAs (payloads ++ text ∷ []) (records ++ known ∷ [])
 ReadAs-push [] [] text known read reads = (reads, tt)
@@ -139,3 +141,28 @@ record_failed (Some old) (Some new) meta text told is_log failed records known h
       | inl same ↦ inl (record { payloads = held.payloads; text = same; read = held.read; times = held.times })
       | inr other ↦ inr (record { payloads = held.payloads ++ text ∷ []; text = other; read = more.0; times = more.1 })
     ]
+
+-- What a log of records holds is the text of its disk.
+held_text : (files : Files) (meta : MetaLog) (records : List Record) (payloads : List (List ℕ)) → meta.log.stem ≡ Log → IsKept files meta records → IsLogText Log files payloads → IsHeld files meta.log payloads
+held_text files meta records payloads is_log kept text =
+    let segment = subst (λ (s : Stem). HasSegment (IsAllowed s) s files kept.payloads) is_log kept.held.segment in
+    subst (IsHeld files meta.log) (text_unique (IsAllowed Log) (IsAllowed Log) Log files kept.payloads payloads (inr segment) text) kept.held
+
+-- An append that was done, by its texts.
+pub texts_appended : (old new : Option Files) (meta : MetaLog) (later : GateLog) (text : List ℕ) (records : List Record) → BothTold (ChangesOnly (segment_name Log 1)) old new → meta.log.stem ≡ Log → later.stem ≡ meta.log.stem
+    → HoldsRecords old meta records → ((payloads : List (List ℕ)) → HoldsLog old meta.log payloads → HoldsLog new later (payloads ++ text ∷ []))
+    → (payloads : List (List ℕ)) → HoldsText Log old payloads → HoldsText Log new (payloads ++ text ∷ [])
+texts_appended old None meta later text records told is_log same kept appended payloads was = tt
+texts_appended None (Some new) meta later text records told is_log same kept appended payloads was = absurd told
+texts_appended (Some old) (Some new) meta later text records told is_log same kept appended payloads was =
+    let now = appended payloads (held_text old meta records payloads is_log kept was) in
+    inr (subst (λ (s : Stem). HasSegment (IsAllowed s) s new (payloads ++ text ∷ [])) (same ∙ is_log) now.segment)
+
+-- One that failed.
+pub texts_failed : (old new : Option Files) (meta : MetaLog) (text : List ℕ) (records : List Record) → BothTold (ChangesOnly (segment_name Log 1)) old new → meta.log.stem ≡ Log
+    → HoldsRecords old meta records → ((payloads : List (List ℕ)) → HoldsLog old meta.log payloads → HoldsEither (stem_of meta.log) new payloads text)
+    → (payloads : List (List ℕ)) → HoldsText Log old payloads → HoldsEither Log new payloads text
+texts_failed old None meta text records told is_log kept failed payloads was = tt
+texts_failed None (Some new) meta text records told is_log kept failed payloads was = absurd told
+texts_failed (Some old) (Some new) meta text records told is_log kept failed payloads was =
+    subst (λ (s : Stem). IsEither s payloads text new) is_log (failed payloads (held_text old meta records payloads is_log kept was))

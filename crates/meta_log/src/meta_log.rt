@@ -1,4 +1,4 @@
-ghost use Rattle.std.specs.Prelude.{◌≡◌, ◌<◌, ◌≤◌, ◌+◌, ◌⊎◌, ◌++◌, ◌∷◌, [], List, length, Bool, false, None, Some, IfOk, OnOk, IfErr, OnErr, IsErrOf, IfSome};
+ghost use Rattle.std.specs.Prelude.{◌≡◌, ◌<◌, ◌≤◌, ◌+◌, ◌⊎◌, ◌++◌, ◌∷◌, [], List, length, ℕ, Bool, false, None, Some, IfOk, OnOk, IfErr, OnErr, IsErrOf, IfSome};
 ghost use Rattle.weed_base.specs.Told.{HasCause, IsCauseOf};
 ghost use Rattle.weed_base.specs.Files.{BothTold, Files};
 ghost use Rattle.weed_base.specs.Images.{LeavesOnly, OnlyReads};
@@ -38,7 +38,7 @@ pub struct MetaLog {
 
 impl MetaLog {
     ghost use Rattle.meta_log.specs.Faults.{IfDamaged};
-    ghost use Rattle.meta_log.specs.Held.{gate_of};
+    ghost use Rattle.meta_log.specs.Held.{gate_of, HoldsText, HoldsEither};
     ghost use Rattle.meta_log.specs.Kept.{front_of, IsRecordLog, HoldsRecordLog, Keeps, HoldsRecords, HoldsEitherLog, IsOpenedFrom, IsKept, IsRecordDamage, IsPast, IsEitherLog};
     ghost use Rattle.meta_log.specs.Images.{ComesBy, ImagesKeep, IsMadeFrom, HasLogOf, IsOwn};
     ghost use Rattle.meta_log.specs.Places.{place_behind};
@@ -105,6 +105,13 @@ impl MetaLog {
             → ReadsAs text.now known → known.time ≡ time → HoldsRecords (D.files disk.new) self.new (records ++ known ∷ [])) }
         ensures failed { OnErr result ((records : List Record) (known : Record) → HoldsRecords (D.files disk.old) self.old records
             → ReadsAs text.now known → known.time ≡ time → HoldsEitherLog (D.files disk.new) records known) }
+
+        // The same of the texts themselves, whatever record they read as.
+        ensures text_appended { OnOk result ((payloads : List (List ℕ)) → HoldsText Log (D.files disk.old) payloads
+            → HoldsText Log (D.files disk.new) (payloads ++ text.now ∷ [])) }
+        ensures text_failed { OnErr result ((payloads : List (List ℕ)) → HoldsText Log (D.files disk.old) payloads
+            → HoldsEither Log (D.files disk.new) payloads text.now) }
+
         ensures front { OnOk result (front_of self.new ≡ record { count = (front_of self.old).count + 1; time = time }) }
         ensures same { OnErr result (self.new ≡ self.old) }
 

@@ -4,7 +4,7 @@ use Rattle.meta_log.specs.declared.front.Front.{Front}
 use Rattle.weed_base.specs.Files.{BothTold}
 use Rattle.meta_log.specs.LogText.{segment_name, ChangesOnly}
 use Rattle.meta_log.specs.Kept.{front_of}
-use Rattle.meta_log.proofs.RecordLists.{record_appended, record_failed}
+use Rattle.meta_log.proofs.RecordLists.{record_appended, record_failed, texts_appended, texts_failed}
 use Rattle.meta_log.proofs.RecordCrashes.{same_texts, records_leave, records_settle}
 use Rattle.meta_log.proofs.meta_log.MetaLog.append.Goals as goal
 
@@ -33,6 +33,20 @@ returns-clause-held g c =
           c.in_ok-append.ensures.appended held.0 reads.0 held.1 reads.1 (subst (λ n. (front_of c.args.self.now).time < n) (sym reads.2) c.requires.past)
           (ap (λ (n : ℕ). let f : Front = record { count = c.args.self.now.front.count + 1; time = n } in f) (sym reads.2)),
     )
+
+-- the texts
+pub returns-in_err-append-clause-text_failed : goal.returns-in_err-append-clause-text_failed
+returns-in_err-append-clause-text_failed g c =
+    let p = err_from_is_err_and c.from_residual.result c.from_residual.ensures.1 in
+    rw p.1 (texts_failed (g.D.Disk.files c.args.disk.now) (g.D.Disk.files c.append.new.disk) c.args.self.now c.args.text.now c.requires.held.0
+    (subst (λ s. BothTold (ChangesOnly (segment_name s 1)) (g.D.Disk.files c.args.disk.now) (g.D.Disk.files c.append.new.disk)) c.args.self.now.is_log c.in_err-append.ensures.others)
+    c.args.self.now.is_log c.requires.held.1 c.in_err-append.ensures.failed)
+
+pub returns-clause-text_appended : goal.returns-clause-text_appended
+returns-clause-text_appended g c =
+    texts_appended (g.D.Disk.files c.args.disk.now) (g.D.Disk.files c.append.new.disk) c.args.self.now _ c.args.text.now c.requires.held.0
+    (subst (λ s. BothTold (ChangesOnly (segment_name s 1)) (g.D.Disk.files c.args.disk.now) (g.D.Disk.files c.append.new.disk)) c.args.self.now.is_log c.in_ok-append.ensures.others)
+    c.args.self.now.is_log c.append.ensures.stem c.requires.held.1 c.in_ok-append.ensures.appended
 
 -- what a crash leaves
 pub returns-in_err-append-clause-atomic : goal.returns-in_err-append-clause-atomic
