@@ -10,7 +10,7 @@ use Rattle.meta_log.specs.LogText.{segment_name}
 use Rattle.meta_log.specs.Held.{IsHeld}
 use Rattle.meta_log.specs.Left.{IsLeft, batch_from}
 use Rattle.meta_log.specs.Records.{ReadAs}
-use Rattle.meta_log.specs.Skip.{IsAhead, AreLate, SkipsTo}
+use Rattle.meta_log.specs.Skip.{IsAhead, AreLate, SkipsTo, NoneAhead}
 use Rattle.meta_log.specs.Stretch.{Stretch, IsOf}
 use Rattle.meta_log.specs.Kept.{HoldsRecords, IsPast}
 use Rattle.meta_log.specs.declared.meta_log.MetaLog.{MetaLog}
@@ -105,3 +105,14 @@ told_records_undamaged (Some files) mid now name meta name_is begun skipped afte
     let held = subst (IsHeld files meta.log) parts.parted holds.held in
     let ahead = ahead_at_start name meta name_is begun skipped after 0 files parts.before parts.past parts.old begins.1 held parts.read parts.early in
     absurd (none parts.past (skip parts.past ahead parts.late))
+
+-- Nor where they are skipped.
+pub told_skipped_undamaged : (told mid : Option Files) (name : List ℕ) (meta : MetaLog) → name ≡ segment_name meta.log.stem 1 → (begun : Stretch) (after : ℕ) → mid ≡ told → (records : List Record) → HoldsRecords told meta records
+    → IfSome told (λ files. IsOf (content files name) begun × (begun.at ≡ min 0 (length (content files name))))
+    → IfSome mid (λ files. NoneAhead (content files name) meta.log.gate after begun.at) → told ≡ None
+told_skipped_undamaged None mid name meta name_is begun after same records holds begins refuted = refl
+told_skipped_undamaged (Some files) mid name meta name_is begun after same records holds begins refuted =
+    let none = subst (λ o. IfSome o (λ f. NoneAhead (content f name) meta.log.gate after begun.at)) same refuted in
+    let parts = split after 0 holds.payloads records holds.read holds.times in
+    let held = subst (IsHeld files meta.log) parts.parted holds.held in
+    absurd (none parts.past (ahead_at_start name meta name_is begun begun after 0 files parts.before parts.past parts.old begins.1 held parts.read parts.early) parts.late)

@@ -1,14 +1,12 @@
 -- Records that are skipped by their time.
-use Rattle.std.proofs.Common.{◌≡◌, ◌≢◌, ℕ, ◌≤◌, ◌<◌, List, [], ◌∷◌, ◌++◌, refl, sym, ◌∙◌, ap, subst, arith, Option, Some, None}
+use Rattle.std.proofs.Common.{◌≡◌, ℕ, ◌≤◌, ◌<◌, List, [], ◌∷◌, ◌++◌, refl, sym, ◌∙◌, ap, subst, arith, Option, Some, None}
 use Rattle.std.specs.Prelude.{IfSome, All}
 use Rattle.std.proofs.lemmas.List.Elements.{All-head, All-tail}
 use Rattle.weed_base.specs.Files.{Files, content}
 use Rattle.name_core.specs.declared.change.Record.{Record}
-use Rattle.meta_log.specs.Left.{IsLeft, MeetsNext}
-use Rattle.meta_log.specs.Records.{ReadsAs, ReadAs}
-use Rattle.meta_log.specs.Skip.{IsAhead, AreLate}
-use Rattle.meta_log.specs.declared.head.Head.{Head}
-use Rattle.meta_log.specs.declared.head.Head.TheVariants.{Closed, Broken, Item}
+use Rattle.meta_log.specs.Left.{IsLeft}
+use Rattle.meta_log.specs.Records.{ReadsAs, IsNoRecord, ReadAs}
+use Rattle.meta_log.specs.Skip.{IsAhead, AreLate, NoneAhead}
 use Rattle.meta_log.proofs.RecordLists.{TellsTime, one_record}
 
 first_of : (p q : List ℕ) (ps qs : List (List ℕ)) → p ∷ ps ≡ q ∷ qs → p ≡ q
@@ -75,23 +73,44 @@ told_stays (Some files) name gate after at now later text same known_late taken 
     subst (λ (n : ℕ). IsLeft (content files name) gate n past) (sym same)
     (stays (content files name) gate after at text next.0 known_late ahead.payloads past ahead.records ahead.here next.1 ahead.read ahead.early)
 
--- the payload is past the time, or no record
+-- the payload is past the time
 pub late_time : (text : List ℕ) (found : Option ℕ) (time after : ℕ) → found ≡ Some time → after < time → TellsTime text found → (known : Record) → ReadsAs text known → after < known.time
 late_time text found time after is late tells known reads = omega (arith, late, time_is text known found time is tells reads)
 
-pub no_time : (text : List ℕ) (found : Option ℕ) (after : ℕ) → found ≡ None → TellsTime text found → (known : Record) → ReadsAs text known → after < known.time
-no_time text found after is tells known reads = absurd ((subst (TellsTime text) is tells) known reads)
-
--- no item is left
-no_item : (bytes : List ℕ) (gate at : ℕ) (head : Head) → ((size : ℕ) → head ≢ Item size) → (payloads past : List (List ℕ)) → IsLeft bytes gate at (payloads ++ past) → MeetsNext (payloads ++ past) head → IsLeft bytes gate at past
-no_item bytes gate at Closed other payloads past here met = empties bytes gate at payloads past met here
-no_item bytes gate at Broken other payloads past here met = absurd met
-no_item bytes gate at (Item size) other payloads past here met = absurd (other size refl)
-
-pub told_no_item : (told : Option Files) (name : List ℕ) (gate after at now : ℕ) (head : Head) → now ≡ at → ((size : ℕ) → head ≢ Item size)
-    → IfSome told (λ files. (left : List (List ℕ)) → IsLeft (content files name) gate at left → MeetsNext left head)
+-- nothing is left
+pub told_empties : (told : Option Files) (name : List ℕ) (gate after at now : ℕ) → now ≡ at
+    → IfSome told (λ files. (left : List (List ℕ)) → IsLeft (content files name) gate at left → left ≡ [])
     → IfSome told (λ files. (past : List (List ℕ)) → IsAhead (content files name) gate after at past → AreLate after past → IsLeft (content files name) gate now past)
-told_no_item None name gate after at now head same other met = tt
-told_no_item (Some files) name gate after at now head same other met = λ past ahead late.
+told_empties None name gate after at now same none = tt
+told_empties (Some files) name gate after at now same none = λ past ahead late.
     subst (λ (n : ℕ). IsLeft (content files name) gate n past) (sym same)
-    (no_item (content files name) gate at head other ahead.payloads past ahead.here (met (ahead.payloads ++ past) ahead.here))
+    (empties (content files name) gate at ahead.payloads past (none (ahead.payloads ++ past) ahead.here) ahead.here)
+
+-- the first of records is no text of none
+none_reads : (text : List ℕ) (rest payloads past : List (List ℕ)) (records others : List Record) → payloads ++ past ≡ text ∷ rest → ReadAs payloads records → ReadAs past others → ¬ IsNoRecord text
+none_reads text rest [] [] records others same read late = absurd (cc)
+none_reads text rest [] (p ∷ past) records [] same read late = absurd late
+none_reads text rest [] (p ∷ past) records (x ∷ others) same read late = λ nothing. nothing x (subst (λ (t : List ℕ). ReadsAs t x) (first_of p text past rest same) late.0)
+none_reads text rest (p ∷ payloads) past [] others same read late = absurd read
+none_reads text rest (p ∷ payloads) past (x ∷ records) others same read late = λ nothing. nothing x (subst (λ (t : List ℕ). ReadsAs t x) (first_of p text (payloads ++ past) rest same) read.0)
+
+-- No such records are left: what stands there is no record, or no item, or they weren't left before.
+pub told_unread : (told : Option Files) (name : List ℕ) (gate after at later : ℕ) (text : List ℕ) (found : Option ℕ) → found ≡ None → TellsTime text found
+    → IfSome told (λ files. (left : List (List ℕ)) → IsLeft (content files name) gate at left → (rest : List (List ℕ)) × (left ≡ text ∷ rest) × IsLeft (content files name) gate later rest)
+    → IfSome told (λ files. NoneAhead (content files name) gate after at)
+told_unread None name gate after at later text found is tells taken = tt
+told_unread (Some files) name gate after at later text found is tells taken = λ past ahead late.
+    let next = taken (ahead.payloads ++ past) ahead.here in
+    none_reads text next.0 ahead.payloads past ahead.records late.0 next.1 ahead.read late.1 (subst (TellsTime text) is tells)
+
+pub told_none_ahead : (told : Option Files) (name : List ℕ) (gate after at : ℕ) → IfSome told (λ files. (left : List (List ℕ)) → ¬ IsLeft (content files name) gate at left) → IfSome told (λ files. NoneAhead (content files name) gate after at)
+told_none_ahead None name gate after at none = tt
+told_none_ahead (Some files) name gate after at none = λ past ahead late. none (ahead.payloads ++ past) ahead.here
+
+pub told_none_before : (told now : Option Files) (name : List ℕ) (gate after start at : ℕ) → now ≡ told
+    → IfSome told (λ files. (past : List (List ℕ)) → IsAhead (content files name) gate after start past → AreLate after past → IsAhead (content files name) gate after at past)
+    → IfSome now (λ files. NoneAhead (content files name) gate after at) → IfSome told (λ files. NoneAhead (content files name) gate after start)
+told_none_before None now name gate after start at same was none = tt
+told_none_before (Some files) now name gate after start at same was none = λ past ahead late.
+    let here = subst (λ o. IfSome o (λ f. NoneAhead (content f name) gate after at)) same none in
+    here past (was past ahead late) late

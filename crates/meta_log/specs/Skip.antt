@@ -1,8 +1,8 @@
 -- Records that are skipped by their time.
-use Rattle.std.specs.Prelude.{ℕ, ◌≤◌, ◌<◌, Bool, List, ◌++◌, All, MatchBool}
+use Rattle.std.specs.Prelude.{ℕ, ◌+◌, ◌≤◌, ◌<◌, ◌⊎◌, Bool, List, ◌++◌, length, take, drop, All, MatchBool}
 use Rattle.name_core.specs.declared.change.Record.{Record}
 use Rattle.meta_log.specs.Left.{IsLeft}
-use Rattle.meta_log.specs.Records.{ReadAs}
+use Rattle.meta_log.specs.Records.{ReadsAs, ReadAs}
 
 -- What is left are records up to that time, and behind them these payloads.
 pub record IsAhead (bytes : List ℕ) (gate after at : ℕ) (past : List (List ℕ)) : Type 0 where
@@ -26,3 +26,15 @@ SkipsOne bytes gate after at later skipped =
 abbrev pub SkipsTo : List ℕ → ℕ → ℕ → ℕ → ℕ → Type 0
 SkipsTo bytes gate after at later =
     (past : List (List ℕ)) → IsAhead bytes gate after at past → AreLate after past → IsLeft bytes gate later past
+
+-- What is left aren't records up to the time and behind them records past it.
+abbrev pub NoneAhead : List ℕ → ℕ → ℕ → ℕ → Type 0
+NoneAhead bytes gate after at = (past : List (List ℕ)) → IsAhead bytes gate after at past → ¬ AreLate after past
+
+-- Behind an open gate and a length these bytes hold the text of a record past the time.
+abbrev pub HoldsLate : ℕ → List ℕ → Type 0
+HoldsLate after held = (size : ℕ) × (known : Record) × (5 + size ≤ length held) × ReadsAs (take size (drop 5 held)) known × (after < known.time)
+
+-- The gate is reached, or a record past the time stands there.
+abbrev pub EndsOrHoldsLate : ℕ → ℕ → ℕ → List ℕ → Type 0
+EndsOrHoldsLate gate after at held = (gate ≤ at) ⊎ HoldsLate after held

@@ -27,6 +27,16 @@ fn item_or_broken(head: Head) -> Head
     }
 }
 
+/// Damage of a file, at the place that its reading came to.
+pub fn damaged_here(name: &FileName, reading: &Reading) -> LogFault
+    ensures { result ≡ LogFault.Damaged name.now reading.now.at }
+{
+    LogFault::Damaged {
+        file: name.copy(),
+        at: reading.at(),
+    }
+}
+
 /// What is left up to the gate: the next item, or nothing, which is `Closed`.
 pub fn left_head<D: Disk>(
     disk: &mut D,
@@ -78,10 +88,7 @@ fn take_text<D: Disk>(
 {
     match left_head(disk, name, gate, reading)? {
         Head::Closed => Ok(None),
-        Head::Broken => Err(LogFault::Damaged {
-            file: name.copy(),
-            at: reading.at(),
-        }),
+        Head::Broken => Err(damaged_here(name, reading)),
         Head::Item(size) => {
             let text = LogText::new(alloc, &reading.held()[AHEAD..AHEAD + size])?;
             reading.skip(AHEAD + size);

@@ -1,11 +1,11 @@
-ghost use Rattle.std.specs.Prelude.{◌≡◌, ◌<◌, ◌≤◌, IfOk, OnOk, IfErr, IsErrOf, IfSome, MatchOption, MatchResult};
+ghost use Rattle.std.specs.Prelude.{◌≡◌, ◌<◌, ◌≤◌, false, IfOk, OnOk, IfErr, IsErrOf, IfSome, MatchOption, MatchResult};
 ghost use Rattle.std.specs.Bool.{OnTrue};
 ghost use Rattle.weed_base.specs.Told.{IsCauseOf};
 ghost use Rattle.weed_base.specs.Files.{content};
 ghost use Rattle.weed_base.specs.Images.{OnlyReads};
 ghost use Rattle.weed_base.specs.Beside.{StaysBeside};
 ghost use Rattle.meta_log.specs.Stretch.{IsOf};
-ghost use Rattle.meta_log.specs.Skip.{SkipsOne, SkipsTo};
+ghost use Rattle.meta_log.specs.Skip.{SkipsOne, SkipsTo, NoneAhead, EndsOrHoldsLate};
 ghost use Rattle.meta_log.specs.Faults.{IfDamaged};
 ghost use Rattle.name_core.specs.declared.change.Record.{Record};
 ghost use Rattle.name_core.specs.Log.{end_of_time};
@@ -15,7 +15,7 @@ use crate::check::Check;
 use crate::fault::LogFault;
 use crate::front::Front;
 use crate::head::Head;
-use crate::left::left_head;
+use crate::left::{damaged_here, left_head};
 use crate::reading::Reading;
 use crate::scan::AHEAD;
 use name_core::{Record, RecordFault};
@@ -42,7 +42,8 @@ fn time_of(alloc: Global, payload: &[u8]) -> Result<Option<u64>, AllocError>
     }
 }
 
-/// Skips the next record where it isn't past that time, and answers whether it did.
+/// Skips the next record where it isn't past that time, and answers whether it did. A text that reads as no
+/// record is damage.
 fn skip_one<D: Disk>(
     alloc: Global,
     disk: &mut D,
@@ -54,22 +55,27 @@ fn skip_one<D: Disk>(
     requires { IfSome (D.files disk.old) (λ files. IsOf (content files name.now) reading.old) }
     ensures of { IfOk result (λ _. IfSome (D.files disk.old) (λ files. IsOf (content files name.now) reading.new)) }
     ensures skips { IfOk result (λ skipped. IfSome (D.files disk.old) (λ files. SkipsOne (content files name.now) gate after reading.old.at reading.new.at skipped)) }
+    ensures stops { IfOk result (λ skipped. skipped ≡ false → EndsOrHoldsLate gate after reading.new.at reading.new.held) }
     ensures goes { IfOk result (λ skipped. (reading.new.size ≡ reading.old.size) × OnTrue skipped ((reading.old.at < reading.new.at) × (reading.new.at ≤ reading.new.size))) }
-    ensures undamaged { IfErr result (IfDamaged (λ _ _. ⊥)) }
+    ensures damaged { IfErr result (IfDamaged (λ _ _. IfSome (D.files disk.old) (λ files. NoneAhead (content files name.now) gate after reading.old.at))) }
+    ensures blamed { IfErr result (IfDamaged (λ file at. (file ≡ name.now) × (at ≡ reading.new.at))) }
     ensures files { D.files disk.new ≡ D.files disk.old }
     ensures still { OnlyReads D.tick D.images D.image_since disk.old disk.new }
     ensures cause { IsCauseOf (D.faults disk.old) (D.faults disk.new) (IsErrOf result LogFault.DiskFault) }
     ensures beside { StaysBeside D.sent D.send_faults D.attachment disk.old disk.new }
 {
-    let Head::Item(size) = left_head(disk, name, gate, reading)? else {
-        return Ok(false);
+    let size = match left_head(disk, name, gate, reading)? {
+        Head::Closed => return Ok(false),
+        Head::Broken => return Err(damaged_here(name, reading)),
+        Head::Item(size) => size,
     };
     match time_of(alloc, &reading.held()[AHEAD..AHEAD + size])? {
         Some(time) if time <= after => {
             reading.skip(AHEAD + size);
             Ok(true)
         }
-        _ => Ok(false),
+        Some(_) => Ok(false),
+        None => Err(damaged_here(name, reading)),
     }
 }
 
@@ -85,7 +91,9 @@ pub fn skip_past<D: Disk>(
     requires { IfSome (D.files disk.old) (λ files. IsOf (content files name.now) reading.old) }
     ensures of { OnOk result (IfSome (D.files disk.old) (λ files. IsOf (content files name.now) reading.new)) }
     ensures skipped { OnOk result (IfSome (D.files disk.old) (λ files. SkipsTo (content files name.now) gate after reading.old.at reading.new.at)) }
-    ensures undamaged { IfErr result (IfDamaged (λ _ _. ⊥)) }
+    ensures stops { OnOk result (EndsOrHoldsLate gate after reading.new.at reading.new.held) }
+    ensures damaged { IfErr result (IfDamaged (λ _ _. IfSome (D.files disk.old) (λ files. NoneAhead (content files name.now) gate after reading.old.at))) }
+    ensures blamed { IfErr result (IfDamaged (λ file at. (file ≡ name.now) × (at ≡ reading.new.at))) }
     ensures files { D.files disk.new ≡ D.files disk.old }
     ensures still { OnlyReads D.tick D.images D.image_since disk.old disk.new }
     ensures cause { IsCauseOf (D.faults disk.old) (D.faults disk.new) (IsErrOf result LogFault.DiskFault) }

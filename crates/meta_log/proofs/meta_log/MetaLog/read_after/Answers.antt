@@ -2,8 +2,22 @@ use Rattle.std.proofs.Common.{◌∙◌, ap, sym}
 use Rattle.std.proofs.lemmas.Result.{err_from_is_err_and}
 use Rattle.meta_log.specs.LogText.{segment_name}
 use Rattle.meta_log.proofs.Faulted.{damaged_on}
-use Rattle.meta_log.proofs.Batches.{told_past, told_records_undamaged}
+use Rattle.meta_log.proofs.Batches.{told_past, told_records_undamaged, told_skipped_undamaged}
 use Rattle.meta_log.proofs.meta_log.MetaLog.read_after.Goals as goal
+
+pub returns-in_err-skip_past-clause-damaged : goal.returns-in_err-skip_past-clause-damaged
+returns-in_err-skip_past-clause-damaged g c =
+    let p = err_from_is_err_and c.from_residual-in_err-skip_past.result c.from_residual-in_err-skip_past.ensures.1 in
+    let name_is = c.first_segment-name.ensures ∙ ap (λ s. segment_name s 1) (sym c.args.self.now.is_log) in
+    damaged_on _ _ c.from_residual-in_err-skip_past.result p.0 c.in_err-skip_past.field-0.0 p.1 p.2
+    (λ file at. told_skipped_undamaged (g.D.Disk.files c.args.disk.now) (g.D.Disk.files c.begin.new.disk) c.first_segment-name.result c.args.self.now name_is c.in_ok-reading.reading c.args.after
+    c.begin.ensures.files c.requires.0 c.requires.1 c.in_ok-reading.ensures.of)
+    c.in_err-skip_past.ensures.damaged
+
+pub returns-in_err-skip_past-clause-blamed : goal.returns-in_err-skip_past-clause-blamed
+returns-in_err-skip_past-clause-blamed g c =
+    let p = err_from_is_err_and c.from_residual-in_err-skip_past.result c.from_residual-in_err-skip_past.ensures.1 in
+    damaged_on _ _ c.from_residual-in_err-skip_past.result p.0 c.in_err-skip_past.field-0.0 p.1 p.2 (λ file at blamed. blamed.0 ∙ c.first_segment-name.ensures) c.in_err-skip_past.ensures.blamed
 
 pub returns-in_err-texts-clause-damaged : goal.returns-in_err-texts-clause-damaged
 returns-in_err-texts-clause-damaged g c =
