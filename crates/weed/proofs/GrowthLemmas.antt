@@ -1,11 +1,11 @@
 -- No file is touched but the log's own, which grows by texts of records: by nothing at all, by an opening or an append,
 -- and by one call behind another.
-use Rattle.std.proofs.Common.{◌≡◌, ◌∙◌, ℕ, List, [], ◌∷◌, ◌++◌, map, Option, Some, None, Result, Ok, Err, refl, sym, ap, subst, inl, inr, append_assoc, append-nil}
-use Rattle.std.specs.Prelude.{OnOk, OnErr}
+use Rattle.std.proofs.Common.{◌≡◌, ◌∙◌, ℕ, List, [], ◌∷◌, ◌++◌, map, Option, Some, None, refl, sym, ap, subst, inl, inr, append_assoc, append-nil}
 use Rattle.weed_base.specs.Files.{Files, BothTold}
 use Rattle.name_core.specs.declared.change.Record.{Record}
 use Rattle.name_core.specs.RecordText.{record_text}
-use Rattle.meta_log.specs.LogText.{IsLogText}
+use Rattle.meta_log.specs.LogText.{segment_name, ChangesOnly, IsLogText}
+use Rattle.meta_log.specs.Held.{HoldsText, HoldsEither}
 use Rattle.meta_log.specs.Images.{IsMadeFrom}
 use Rattle.meta_log.specs.Making.{LeavesOthers}
 use Rattle.meta_log.specs.declared.stem.Stem.TheVariants.{Log}
@@ -58,4 +58,30 @@ grows_opened (Some old) (Some new) others made = record {
   text = λ payloads text.
       let (before, same, keeps) = list_of Log (λ before. before ≡ old) new (old, refl, made) in
       with_none new payloads (keeps payloads (subst (λ (files : Files). IsLogText Log files payloads) (sym same) text));
+}
+
+-- A record was appended.
+pub grows_appended : (old new : Option Files) (made : Record) (text : List ℕ) → text ≡ record_text made → BothTold (ChangesOnly (segment_name Log 1)) old new
+    → ((payloads : List (List ℕ)) → HoldsText Log old payloads → HoldsText Log new (payloads ++ text ∷ [])) → BothTold GrowsByRecords old new
+grows_appended None None made text is only grown = tt
+grows_appended None (Some new) made text is only grown = absurd only
+grows_appended (Some old) None made text is only grown = absurd only
+grows_appended (Some old) (Some new) made text is only grown = record {
+  others = λ name no_segment no_marker. only name no_segment;
+  text = λ payloads log. (made ∷ [], subst (λ (known : List ℕ). IsLogText Log new (payloads ++ known ∷ [])) is (grown payloads log));
+}
+
+-- An append of one failed.
+pub grows_or_not : (old new : Option Files) (made : Record) (text : List ℕ) → text ≡ record_text made → BothTold (ChangesOnly (segment_name Log 1)) old new
+    → ((payloads : List (List ℕ)) → HoldsText Log old payloads → HoldsEither Log new payloads text) → BothTold GrowsByRecords old new
+grows_or_not None None made text is only either = tt
+grows_or_not None (Some new) made text is only either = absurd only
+grows_or_not (Some old) None made text is only either = absurd only
+grows_or_not (Some old) (Some new) made text is only either = record {
+  others = λ name no_segment no_marker. only name no_segment;
+  text = λ payloads log.
+      elim (either payloads log) [
+        | inl same ↦ with_none new payloads same
+        | inr more ↦ (made ∷ [], subst (λ (known : List ℕ). IsLogText Log new (payloads ++ known ∷ [])) is more)
+      ];
 }

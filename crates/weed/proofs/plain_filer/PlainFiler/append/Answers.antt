@@ -2,6 +2,7 @@ use Rattle.std.proofs.Common.{◌∙◌, ap, refl}
 use Rattle.std.proofs.lemmas.Result.{err_from_is_err_and}
 use Rattle.name_core.specs.Namespace.{after_changes}
 use Rattle.weed.proofs.FilerLemmas.{reads_back, failed, recorded, holds_more}
+use Rattle.weed.proofs.GrowthLemmas.{grows_appended, grows_or_not}
 use Rattle.weed.proofs.SettlingLemmas.{settles_appended}
 use Rattle.weed.proofs.plain_filer.PlainFiler.append.Goals as goal
 
@@ -39,3 +40,13 @@ returns-clause-held g c = λ _.
     holds_more (g.D.Disk.files c.args.disk.now) (g.D.Disk.files c.append.new.disk) c.args.self.now _ c.args.planned c.in_ok-ready.ready
     c.in_ok-append.ensures.others c.in_ok-append.ensures.appended (reads_back c.args.planned c.in_ok-ready.ready written c.requires.read_back)
     (c.commit.ensures ∙ ap (after_changes c.args.planned.changes) c.in_ok-reserve.ensures.names) c.requires.held
+
+pub returns-in_err-append-clause-grows : goal.returns-in_err-append-clause-grows
+returns-in_err-append-clause-grows g c =
+    grows_or_not (g.D.Disk.files c.args.disk.now) (g.D.Disk.files c.append.new.disk) c.args.planned c.in_ok-ready.ready (c.in_ok-ready.ensures ∙ c.as_slice.ensures ∙ c.in_ok-text.ensures.text)
+    c.in_err-append.ensures.others c.in_err-append.ensures.text_failed
+
+pub returns-clause-grows : goal.returns-clause-grows
+returns-clause-grows g c =
+    grows_appended (g.D.Disk.files c.args.disk.now) (g.D.Disk.files c.append.new.disk) c.args.planned c.in_ok-ready.ready (c.in_ok-ready.ensures ∙ c.as_slice.ensures ∙ c.in_ok-text.ensures.text)
+    c.in_ok-append.ensures.others c.in_ok-append.ensures.text_appended
