@@ -1,5 +1,5 @@
 -- What keeps the marks of open files.
-use Rattle.std.proofs.Common.{◌≡◌, ◌≢◌, ℕ, ◌+◌, ◌<◌, ◌≤◌, Bool, true, false, List, [], ◌∷◌, ◌++◌, length, get_or, set, Some, Result, Ok, Err, OnOk, sym, ap, ◌∙◌, inl, inr, subst, refl, arith}
+use Rattle.std.proofs.Common.{◌≡◌, ◌≢◌, ◌⊎◌, ℕ, ◌+◌, ◌<◌, ◌≤◌, Bool, true, false, List, [], ◌∷◌, ◌++◌, length, get_or, set, Some, Result, Ok, Err, OnOk, sym, ap, ◌∙◌, inl, inr, subst, refl, arith}
 use Rattle.std.proofs.lemmas.Grind.{common_steps, get_or-set_at}
 use Rattle.std.proofs.lemmas.List.{get_or-set_other, length-set}
 use Rattle.std.proofs.lemmas.List.Elements.{at_read}
@@ -8,11 +8,11 @@ use Rattle.std.proofs.lemmas.Slice.Eq.{bytes_eq-Decides}
 use Rattle.std.specs.List.{Any, filter, position}
 use Rattle.std.specs.Str.{bytes_eq}
 use Rattle.weed_base.specs.System.{FileCall}
-use Rattle.weed_base.specs.Awaiting.{Covers, StillAwaits, IsNamedAt, FallsByAnswer, AwaitsNothing}
+use Rattle.weed_base.specs.Awaiting.{Covers, StillAwaits, AwaitsNoMore, IsNamedAt, FallsByAnswer, AwaitsNothing}
 use Rattle.weed_base.specs.declared.real.kept.Awaits.{Awaits}
 use Rattle.weed_base.specs.declared.real.kept.Awaits.TheVariants.{Nothing, Data, Everything}
 use Rattle.weed_base.specs.declared.real.kept.KeptFile.{KeptFile}
-use Rattle.weed_base.proofs.ListLemmas.{same_or_other, below_other, any_filter, EachPair}
+use Rattle.weed_base.proofs.ListLemmas.{same_or_other, below_other, any_filter, set_any_or, EachPair}
 
 pub covers_same : (mark : Awaits) → Covers mark mark
 covers_same Nothing = tt
@@ -66,7 +66,7 @@ pub still_push : {F : Type 0} (files : List (KeptFile F)) (kept : KeptFile F) �
 still_push files kept name file mark something (k, x, below, is, holds) = (k, x, grind (arith, common_steps), grind (arith, common_steps), holds)
 
 -- nothing covers nothing alone
-covers_nothing : (mark : Awaits) → mark ≢ Nothing → Covers Nothing mark → ⊥
+pub covers_nothing : (mark : Awaits) → mark ≢ Nothing → Covers Nothing mark → ⊥
 covers_nothing Nothing something covers = something refl
 covers_nothing Data something covers = covers
 covers_nothing Everything something covers = covers
@@ -140,3 +140,23 @@ pub something_awaited : (mark : Awaits) → awaits_something mark ≡ true → m
 something_awaited Nothing passes = λ none. absurd (cc passes)
 something_awaited Data passes = λ none. absurd (cc none)
 something_awaited Everything passes = λ none. absurd (cc none)
+
+-- data covers data alone, of what is something
+covered_by_data : (mark : Awaits) → mark ≢ Nothing → Covers Data mark → mark ≡ Data
+covered_by_data Nothing something covers = absurd (something refl)
+covered_by_data Data something covers = refl
+covered_by_data Everything something covers = absurd covers
+
+-- a mark that stays, or rises from nothing to data
+pub rises_to_data : (old new mark : Awaits) → (new ≡ old) ⊎ ((old ≡ Nothing) × (new ≡ Data)) → mark ≢ Nothing → Covers new mark → Covers old mark ⊎ (mark ≡ Data)
+rises_to_data old new mark (inl same) something covers = inl (subst (λ a. Covers a mark) same covers)
+rises_to_data old new mark (inr rose) something covers = inr (covered_by_data mark something (subst (λ a. Covers a mark) rose.1 covers))
+
+-- only the mark of the file at a place may rise
+pub no_more_set : {F : Type 0} (May : List ℕ → Awaits → Type 0) (files : List (KeptFile F)) (place : ℕ) (before kept : KeptFile F) → place < length files → before ≡ get_or files place before → kept.name ≡ before.name → kept.file ≡ before.file → ((mark : Awaits) → mark ≢ Nothing → Covers kept.awaits mark → Covers before.awaits mark ⊎ May before.name mark) → AwaitsNoMore May files (set files place kept)
+no_more_set {F} May files place before kept within was same file rises name held mark something =
+    set_any_or (λ y. (y.name ≡ name) × ((y.file ≡ held) × Covers y.awaits mark)) (May name mark) files place before kept within was
+    (λ holds. elim (rises mark something holds.1.1) [
+      | inl covered ↦ inl (sym same ∙ holds.0, (sym file ∙ holds.1.0, covered))
+      | inr may ↦ inr (subst (λ it. May it mark) (sym same ∙ holds.0) may)
+    ])

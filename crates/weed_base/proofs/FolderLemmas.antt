@@ -4,12 +4,14 @@ use Rattle.std.specs.List.{position}
 use Rattle.std.specs.Str.{bytes_eq}
 use Rattle.weed_base.specs.Files.{BothTold}
 use Rattle.weed_base.specs.System.{PathCall, Opened, Made, path_in}
-use Rattle.weed_base.specs.Awaiting.{IsNamedAt, IsFileAt, IsOpenAs, OpensNone, StillAwaits}
-use Rattle.weed_base.specs.Folder.{IsOpenFile, IsOpenAt, IsSameFolder, OpensByName, KeepsFolder, path_of}
+use Rattle.weed_base.specs.Awaiting.{Covers, IsNamedAt, IsFileAt, IsOpenAs, OpensNone, StillAwaits}
+use Rattle.weed_base.specs.Folder.{IsOpenFile, IsOpenAt, IsSameFolder, OpensByName, KeepsFolder, MarksNoMore, path_of}
+use Rattle.weed_base.specs.declared.real.kept.Awaits.{Awaits}
+use Rattle.weed_base.specs.declared.real.kept.Awaits.TheVariants.{Nothing}
 use Rattle.weed_base.specs.declared.real.kept.KeptFile.{KeptFile}
 use Rattle.weed_base.specs.declared.real.kept.KeptFiles.{KeptFiles}
 use Rattle.weed_base.specs.declared.real.folder.Folder.{Folder}
-use Rattle.weed_base.proofs.AwaitingLemmas.{named_at_position}
+use Rattle.weed_base.proofs.AwaitingLemmas.{named_at_position, covers_nothing}
 
 -- the path of a name stays where the directory does
 path_same : {R F : Type 0} {before after : Folder R F} → IsSameFolder before after → (name : List ℕ) → path_of after name ≡ path_of before name
@@ -99,3 +101,34 @@ both_some R None None told = tt
 both_some R None (Some new) told = absurd told
 both_some R (Some old) None told = absurd told
 both_some R (Some old) (Some new) told = (new, told)
+
+-- no mark rose, and then only those that may
+pub marks_along : {R F : Type 0} {May : List ℕ → Awaits → Type 0} {Named : Type 0} {first middle last : Folder R F} → MarksNoMore (λ _ _. ⊥) ⊥ first middle → MarksNoMore May Named middle last → MarksNoMore May Named first last
+marks_along one two = record {
+  files = λ name file mark something found. elim (two.files name file mark something found) [
+    | inl was ↦ elim (one.files name file mark something was) [ inl stood ↦ inl stood | inr none ↦ absurd none ]
+    | inr may ↦ inr may
+  ];
+  names = elim two.names [
+    | inl same ↦ elim one.names [ inl before ↦ inl (same ∙ before) | inr none ↦ absurd none ]
+    | inr named ↦ inr named
+  ];
+}
+
+-- a directory that stays as it was
+marks_same : {R F : Type 0} {May : List ℕ → Awaits → Type 0} {Named : Type 0} {folder : Folder R F} → MarksNoMore May Named folder folder
+marks_same = record { files = λ name file mark something found. inl found; names = inl refl }
+
+-- no mark rose, so none but those that may
+pub marks_none : {R F : Type 0} {May : List ℕ → Awaits → Type 0} {Named : Type 0} {first last : Folder R F} → MarksNoMore (λ _ _. ⊥) ⊥ first last → MarksNoMore May Named first last
+marks_none one = marks_along one marks_same
+
+-- a file that awaits nothing raises none
+pub marks_nothing : {R F : Type 0} {Is : List ℕ → Type 0} {first last : Folder R F} → MarksNoMore (λ other mark. Is other × Covers Nothing mark) ⊥ first last → MarksNoMore (λ _ _. ⊥) ⊥ first last
+marks_nothing more = record {
+  files = λ name file mark something found. elim (more.files name file mark something found) [
+    | inl was ↦ inl was
+    | inr may ↦ inr (covers_nothing mark something may.1)
+  ];
+  names = more.names;
+}

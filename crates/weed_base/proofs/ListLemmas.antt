@@ -71,12 +71,17 @@ push_any P (x ∷ xs) last found =
       | inr later ↦ elim (push_any P xs last later) [ inl there ↦ inl (any_later P x xs there) | inr new ↦ inr new ]
     ]
 
--- one of a list with another item at a place was there, where the item before it there is so too
-pub set_any : {X : Type 0} (P : X → Type 0) (xs : List X) (place : ℕ) (before new : X) → place < length xs → before ≡ get_or xs place before → (P new → P before) → Any P (set xs place new) → Any P xs
-set_any P xs place before new within was back (k, x, below, is, holds) =
+-- one of a list with another item at a place was there, or this holds, where the item before it there is so too, or this holds
+pub set_any_or : {X : Type 0} (P : X → Type 0) (Q : Type 0) (xs : List X) (place : ℕ) (before new : X) → place < length xs → before ≡ get_or xs place before → (P new → P before ⊎ Q) → Any P (set xs place new) → Any P xs ⊎ Q
+set_any_or P Q xs place before new within was back (k, x, below, is, holds) =
     elim (same_or_other k place) [
       | inl here ↦
           let stands : new ≡ x = sym (get_or-set_at xs place k new x here within) ∙ is in
-          (place, before, within, sym was, back (subst P (sym stands) holds))
-      | inr other ↦ (k, x, subst (λ n. k < n) (length-set xs place new) below, sym (get_or-set_other xs place k new x other) ∙ is, holds)
+          elim (back (subst P (sym stands) holds)) [ inl stood ↦ inl (place, before, within, sym was, stood) | inr other ↦ inr other ]
+      | inr other ↦ inl (k, x, subst (λ n. k < n) (length-set xs place new) below, sym (get_or-set_other xs place k new x other) ∙ is, holds)
     ]
+
+-- the same, with nothing else that may hold
+pub set_any : {X : Type 0} (P : X → Type 0) (xs : List X) (place : ℕ) (before new : X) → place < length xs → before ≡ get_or xs place before → (P new → P before) → Any P (set xs place new) → Any P xs
+set_any P xs place before new within was back found =
+    elim (set_any_or P ⊥ xs place before new within was (λ holds. inl (back holds)) found) [ inl there ↦ there | inr none ↦ absurd none ]

@@ -25,6 +25,10 @@ Awaiting name file mark files = Any (λ kept. (kept.name ≡ name) × ((kept.fil
 abbrev pub StillAwaits : {F : Type 0} → List (KeptFile F) → List (KeptFile F) → Type 0
 StillAwaits {F} old new = (name : List ℕ) (file : F) (mark : Awaits) → mark ≢ Nothing → Awaiting name file mark old → Awaiting name file mark new
 
+-- What awaits something awaited as much, but for what may.
+abbrev pub AwaitsNoMore : {F : Type 0} → (List ℕ → Awaits → Type 0) → List (KeptFile F) → List (KeptFile F) → Type 0
+AwaitsNoMore {F} May old new = (name : List ℕ) (file : F) (mark : Awaits) → mark ≢ Nothing → Awaiting name file mark new → Awaiting name file mark old ⊎ May name mark
+
 -- The file at that place has that name.
 abbrev pub IsNamedAt : {F : Type 0} → List ℕ → ℕ → List (KeptFile F) → Type 0
 IsNamedAt {F} name place files = (place < length files) × ((d : KeptFile F) → (slice_index_or files place d).name ≡ name)

@@ -5,7 +5,8 @@ use Rattle.std.specs.Ordering.{nat_cmp}
 use Rattle.std.specs.List.{All, AllZip}
 use Rattle.std.specs.List.Sorted.{IsSorted, IsPermutation}
 use Rattle.weed_base.specs.System.{FileCall, CutTo, SettledAll, PathCall, MadeDirectory, OpenedToSettle, Opened, Missed, Made, Removed, Renamed, Listed, path_in, directory_above}
-use Rattle.weed_base.specs.Awaiting.{Awaiting, IsOpenAs, IsFileAt, StillAwaits, AwaitsNothing, FallsByAnswer, without, AreRenamed}
+use Rattle.weed_base.specs.Awaiting.{Awaiting, IsOpenAs, IsFileAt, StillAwaits, AwaitsNoMore, AwaitsNothing, FallsByAnswer, without, AreRenamed}
+use Rattle.weed_base.specs.declared.real.kept.Awaits.{Awaits}
 use Rattle.weed_base.specs.declared.real.kept.Awaits.TheVariants.{Everything}
 use Rattle.weed_base.specs.declared.real.kept.KeptFile.{KeptFile}
 use Rattle.weed_base.specs.declared.real.folder.Folder.{Folder}
@@ -58,6 +59,11 @@ pub record KeepsFolder {R F : Type 0} (answered : PathCall F → R → Type 0) (
   pub opens : OpensByName answered before after
   pub files : StillAwaits before.kept.files.items after.kept.files.items
   pub names : before.kept.names_await ≡ true → after.kept.names_await ≡ true
+
+-- No mark rose but those that may, and the names await a sync as before, or `Named` says why not.
+pub record MarksNoMore {R F : Type 0} (May : List ℕ → Awaits → Type 0) (Named : Type 0) (before after : Folder R F) : Type 0 where
+  pub files : AwaitsNoMore May before.kept.files.items after.kept.files.items
+  pub names : (after.kept.names_await ≡ before.kept.names_await) ⊎ Named
 
 -- Nothing of the directory awaits a sync.
 abbrev pub IsSettledWhole : {R F : Type 0} → Folder R F → Type 0

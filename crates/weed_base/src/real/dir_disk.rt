@@ -6,7 +6,7 @@ ghost use Rattle.weed_base.specs.Told.{raised, HasCause, IsCauseOf};
 ghost use Rattle.weed_base.specs.Files.{ReadsAt};
 ghost use Rattle.weed_base.specs.System.{Wrote, CutTo, Missed};
 ghost use Rattle.weed_base.specs.Awaiting.{Awaiting};
-ghost use Rattle.weed_base.specs.Folder.{OfFile, OfFileOrMissed, IsListing, IsOpenedFolder, IsSameFolder, KeepsFolder, HasMade, HasRemoved, HasRenamed, NamesMayHaveChanged, SettlesFiles, IsSettledWhole, path_of};
+ghost use Rattle.weed_base.specs.Folder.{OfFile, OfFileOrMissed, IsListing, IsOpenedFolder, IsSameFolder, KeepsFolder, MarksNoMore, HasMade, HasRemoved, HasRenamed, NamesMayHaveChanged, SettlesFiles, IsSettledWhole, path_of};
 ghost use Rattle.weed_base.specs.declared.real.folder.Folder.{Folder};
 ghost use Rattle.weed_base.specs.RealForms.{IsBrokenOff, IsCalled, Ticks, StaysBroken, BothAttached, BothOrNone};
 ghost use Rattle.weed_base.specs.declared.real.kept.Awaits.TheVariants.{Data, Everything};
@@ -200,6 +200,7 @@ impl<F: SystemFile + Drop, R: System<File = F> + AllocGlobal + Clone + Drop> Dis
     fn size(&mut self, name: &FileName) -> Result<Option<u64>, Failed>
         ensures called { IsCalled self.old self.new result }
         ensures keeps { BothOrNone (KeepsFolder R.answered) self.old self.new }
+        ensures more { BothOrNone (MarksNoMore (λ _ _. ⊥) ⊥) self.old self.new }
         ensures size { IfOk result (λ size. IsSomeAnd self.old.folder (λ folder. MatchOption size (R.answered (Missed (path_of folder name.now)) folder.system)
             (λ size. OfFile R.answered (λ file. IfSome (F.bytes file) (λ told. size ≡ length told)) name.now folder))) }
     {
@@ -214,6 +215,7 @@ impl<F: SystemFile + Drop, R: System<File = F> + AllocGlobal + Clone + Drop> Dis
     fn read_at(&mut self, name: &FileName, at: u64, room: &mut [u8]) -> Result<usize, Failed>
         ensures called { IsCalled self.old self.new result }
         ensures keeps { BothOrNone (KeepsFolder R.answered) self.old self.new }
+        ensures more { BothOrNone (MarksNoMore (λ _ _. ⊥) ⊥) self.old self.new }
         ensures bound { IfOk result (λ count. count ≤ length room.new) }
         ensures read { IfOk result (λ count. IsSomeAnd self.old.folder
             (OfFileOrMissed R.answered (count ≡ 0) (λ file. IfSome (F.bytes file) (λ told. ReadsAt told at count room.new)) name.now)) }
@@ -229,6 +231,7 @@ impl<F: SystemFile + Drop, R: System<File = F> + AllocGlobal + Clone + Drop> Dis
     fn write_at(&mut self, name: &FileName, at: u64, piece: &[u8]) -> Result<(), Failed>
         ensures called { IsCalled self.old self.new result }
         ensures keeps { BothOrNone (KeepsFolder R.answered) self.old self.new }
+        ensures more { BothOrNone (MarksNoMore (λ other mark. (name.now ≡ other) × (mark ≡ Data)) ⊥) self.old self.new }
         ensures bound { OnOk result (at + length piece.now < 2 ^ 63) }
         ensures written { OnOk result (BothAttached (λ before after. OfFile R.answered
             (λ file. F.answered (Wrote at piece.now) file × Awaiting name.now file Data after.kept.files.items) name.now before) self.old self.new) }
@@ -244,6 +247,7 @@ impl<F: SystemFile + Drop, R: System<File = F> + AllocGlobal + Clone + Drop> Dis
     fn cut(&mut self, name: &FileName, to: u64) -> Result<(), Failed>
         ensures called { IsCalled self.old self.new result }
         ensures keeps { BothOrNone (KeepsFolder R.answered) self.old self.new }
+        ensures more { BothOrNone (MarksNoMore (λ other _. name.now ≡ other) ⊥) self.old self.new }
         ensures cut { OnOk result (BothAttached (λ before after. OfFile R.answered
             (λ file. F.answered (CutTo to) file × Awaiting name.now file Everything after.kept.files.items) name.now before) self.old self.new) }
     {
@@ -258,6 +262,7 @@ impl<F: SystemFile + Drop, R: System<File = F> + AllocGlobal + Clone + Drop> Dis
     fn make(&mut self, name: &FileName) -> Result<(), Failed>
         ensures called { IsCalled self.old self.new result }
         ensures keeps { BothOrNone (KeepsFolder R.answered) self.old self.new }
+        ensures more { BothOrNone (λ before after. MarksNoMore (λ other _. name.now ≡ other) (R.answered (Missed (path_of before name.now)) before.system) before after) self.old self.new }
         ensures made { OnOk result (BothAttached (HasMade R.answered F.answered name.now) self.old self.new) }
     {
         self.counts.begin()?;

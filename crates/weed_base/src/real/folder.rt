@@ -3,8 +3,8 @@ ghost use Rattle.std.specs.Prelude.{◌≡◌, ◌≤◌, ◌<◌, ◌+◌, ◌^
 ghost use Rattle.std.specs.List.{All};
 ghost use Rattle.weed_base.specs.Files.{ReadsAt, ReadsSome};
 ghost use Rattle.weed_base.specs.System.{Wrote, CutTo, MadeDirectory, Opened, Missed, Made, path_in, directory_above};
-ghost use Rattle.weed_base.specs.Awaiting.{Awaiting, IsNamedAt, IsFileAt};
-ghost use Rattle.weed_base.specs.Folder.{IsOpenAt, OfFile, OfFileOrMissed, IsSettledAt, IsListing, IsOpenedFolder, IsSameFolder, KeepsFolder, HasMade, HasRemoved, HasRenamed, NamesMayHaveChanged, SettlesFiles, IsSettledWhole, path_of};
+ghost use Rattle.weed_base.specs.Awaiting.{Covers, Awaiting, AwaitsNoMore, IsNamedAt, IsFileAt};
+ghost use Rattle.weed_base.specs.Folder.{IsOpenAt, OfFile, OfFileOrMissed, IsSettledAt, IsListing, IsOpenedFolder, IsSameFolder, KeepsFolder, MarksNoMore, HasMade, HasRemoved, HasRenamed, NamesMayHaveChanged, SettlesFiles, IsSettledWhole, path_of};
 
 use crate::file_name::FileName;
 use crate::real::kept::{Awaits, KeptFile, KeptFiles, MAX_END};
@@ -156,7 +156,7 @@ impl<F: SystemFile + Drop, R: System<File = F> + AllocGlobal + Drop> Folder<R, F
         ensures kept { IfOk result (λ place. IsNamedAt name.now place self.new.kept.files.items × IsFileAt place self.new.kept.files.items file) }
         ensures marked { OnOk result (Awaiting name.now file awaits self.new.kept.files.items) }
         ensures keeps { KeepsFolder R.answered self.old self.new }
-        ensures names { self.new.kept.names_await ≡ self.old.kept.names_await }
+        ensures more { MarksNoMore (λ other mark. (name.now ≡ other) × Covers awaits mark) ⊥ self.old self.new }
     {
         self.kept.keep(KeptFile::new(name.copy(), file, awaits))
     }
@@ -167,6 +167,7 @@ impl<F: SystemFile + Drop, R: System<File = F> + AllocGlobal + Drop> Folder<R, F
         ensures opened { IfOk result (λ found. MatchOption found (R.answered (Missed (path_of self.old name.now)) self.old.system)
             (IsOpenAt (λ call. R.answered call self.old.system) (path_of self.old name.now) name.now self.old.kept.files.items self.new.kept.files.items)) }
         ensures keeps { KeepsFolder R.answered self.old self.new }
+        ensures more { MarksNoMore (λ _ _. ⊥) ⊥ self.old self.new }
     {
         if let Some(place) = self.kept.place_of(name) {
             return Ok(Some(place));
@@ -183,6 +184,7 @@ impl<F: SystemFile + Drop, R: System<File = F> + AllocGlobal + Drop> Folder<R, F
         ensures size { IfOk result (λ size. MatchOption size (R.answered (Missed (path_of self.old name.now)) self.old.system)
             (λ size. OfFile R.answered (λ file. IfSome (F.bytes file) (λ told. size ≡ length told)) name.now self.old)) }
         ensures keeps { KeepsFolder R.answered self.old self.new }
+        ensures more { MarksNoMore (λ _ _. ⊥) ⊥ self.old self.new }
     {
         match self.place_of(name)? {
             Some(place) => Ok(Some(self.kept.file(place).size()?)),
@@ -196,6 +198,7 @@ impl<F: SystemFile + Drop, R: System<File = F> + AllocGlobal + Drop> Folder<R, F
         ensures bound { IfOk result (λ count. count ≤ length room.new) }
         ensures read { IfOk result (λ count. OfFileOrMissed R.answered (count ≡ 0) (λ file. IfSome (F.bytes file) (λ told. ReadsAt told at count room.new)) name.now self.old) }
         ensures keeps { KeepsFolder R.answered self.old self.new }
+        ensures more { MarksNoMore (λ _ _. ⊥) ⊥ self.old self.new }
     {
         match self.place_of(name)? {
             Some(place) => read_full(self.kept.file(place), at, room),
@@ -208,6 +211,7 @@ impl<F: SystemFile + Drop, R: System<File = F> + AllocGlobal + Drop> Folder<R, F
         ensures written { OnOk result (OfFile R.answered (λ file. F.answered (Wrote at piece.now) file × Awaiting name.now file Awaits.Data self.new.kept.files.items) name.now self.old) }
         ensures bound { OnOk result (at + length piece.now < 2 ^ 63) }
         ensures keeps { KeepsFolder R.answered self.old self.new }
+        ensures more { MarksNoMore (λ other mark. (name.now ≡ other) × (mark ≡ Awaits.Data)) ⊥ self.old self.new }
     {
         match self.place_of(name)? {
             Some(place) => self.kept.write_at(place, at, piece),
@@ -219,6 +223,7 @@ impl<F: SystemFile + Drop, R: System<File = F> + AllocGlobal + Drop> Folder<R, F
     pub(crate) fn cut(&mut self, name: &FileName, to: u64) -> io::Result<()>
         ensures cut { OnOk result (OfFile R.answered (λ file. F.answered (CutTo to) file × Awaiting name.now file Awaits.Everything self.new.kept.files.items) name.now self.old) }
         ensures keeps { KeepsFolder R.answered self.old self.new }
+        ensures more { MarksNoMore (λ other _. name.now ≡ other) ⊥ self.old self.new }
     {
         match self.place_of(name)? {
             Some(place) => self.kept.cut(place, to),
@@ -230,6 +235,7 @@ impl<F: SystemFile + Drop, R: System<File = F> + AllocGlobal + Drop> Folder<R, F
     fn make_new(&mut self, name: &FileName) -> io::Result<()>
         ensures made { OnOk result ((file : F) × R.answered (Made (path_of self.old name.now) file) self.old.system × Awaiting name.now file Awaits.Everything self.new.kept.files.items) }
         ensures keeps { KeepsFolder R.answered self.old self.new }
+        ensures more { AwaitsNoMore (λ other _. name.now ≡ other) self.old.kept.files.items self.new.kept.files.items }
         ensures names { self.new.kept.names_await ≡ true }
     {
         self.note_names();
@@ -243,6 +249,7 @@ impl<F: SystemFile + Drop, R: System<File = F> + AllocGlobal + Drop> Folder<R, F
     pub(crate) fn make(&mut self, name: &FileName) -> io::Result<()>
         ensures made { OnOk result (HasMade R.answered F.answered name.now self.old self.new) }
         ensures keeps { KeepsFolder R.answered self.old self.new }
+        ensures more { MarksNoMore (λ other _. name.now ≡ other) (R.answered (Missed (path_of self.old name.now)) self.old.system) self.old self.new }
     {
         match self.place_of(name)? {
             Some(place) => self.kept.cut(place, 0),

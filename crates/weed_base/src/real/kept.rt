@@ -3,7 +3,7 @@ ghost use Rattle.std.specs.Prelude.{◌≡◌, ◌≤◌, ◌<◌, ◌+◌, ◌^
 ghost use Rattle.std.specs.List.{All, AllZip, position};
 ghost use Rattle.std.specs.Str.{bytes_eq};
 ghost use Rattle.weed_base.specs.System.{Wrote, CutTo, SettledAll};
-ghost use Rattle.weed_base.specs.Awaiting.{Covers, Awaiting, StillAwaits, IsNamedAt, IsFileAt, IsOpenAs, OpensNone, FallsByAnswer, AwaitsSomething, AwaitsNothing, without, AreRenamed};
+ghost use Rattle.weed_base.specs.Awaiting.{Covers, Awaiting, StillAwaits, AwaitsNoMore, IsNamedAt, IsFileAt, IsOpenAs, OpensNone, FallsByAnswer, AwaitsSomething, AwaitsNothing, without, AreRenamed};
 ghost use Rattle.weed_base.specs.declared.real.kept.Awaits.{Awaits};
 ghost use Rattle.weed_base.specs.declared.real.kept.Awaits.TheVariants.{Nothing, Data, Everything};
 
@@ -62,6 +62,7 @@ impl<F: SystemFile + Drop> KeptFile<F> {
     fn write_at(&mut self, at: u64, piece: &[u8]) -> io::Result<()>
         ensures name { self.new.name ≡ self.old.name }
         ensures still { Covers self.new.awaits self.old.awaits }
+        ensures mark { (self.new.awaits ≡ self.old.awaits) ⊎ ((self.old.awaits ≡ Awaits.Nothing) × (self.new.awaits ≡ Awaits.Data)) }
         ensures marked { at + length piece.now < 2 ^ 63 → Covers self.new.awaits Awaits.Data }
         ensures fits { OnOk result (at + length piece.now < 2 ^ 63) }
         ensures file { self.new.file ≡ self.old.file }
@@ -140,6 +141,7 @@ impl<F: SystemFile + Drop> KeptFiles<F> {
     fn let_idle_go(&mut self)
         ensures still { StillAwaits self.old.files.items self.new.files.items }
         ensures only { OpensNone self.old.files.items self.new.files.items }
+        ensures more { AwaitsNoMore (λ _ _. ⊥) self.old.files.items self.new.files.items }
         ensures few { 64 ≤ length self.old.files.items → All AwaitsSomething self.new.files.items }
         ensures names { self.new.names_await ≡ self.old.names_await }
         ensures directory { self.new.directory ≡ self.old.directory }
@@ -156,6 +158,7 @@ impl<F: SystemFile + Drop> KeptFiles<F> {
         ensures still { StillAwaits self.old.files.items self.new.files.items }
         ensures only { (name : List ℕ) (file : F) → IsOpenAs name file self.new.files.items
             → IsOpenAs name file self.old.files.items ⊎ ((opened.name ≡ name) × (opened.file ≡ file)) }
+        ensures more { AwaitsNoMore (λ name mark. (opened.name ≡ name) × Covers opened.awaits mark) self.old.files.items self.new.files.items }
         ensures few { 64 ≤ length self.old.files.items → All (λ kept. AwaitsSomething kept ⊎ (kept ≡ opened)) self.new.files.items }
         ensures names { self.new.names_await ≡ self.old.names_await }
         ensures directory { self.new.directory ≡ self.old.directory }
@@ -175,6 +178,8 @@ impl<F: SystemFile + Drop> KeptFiles<F> {
         ensures written { (file : F) → IsFileAt place self.old.files.items file → OnOk result (F.answered (Wrote at piece.now) file) }
         ensures still { StillAwaits self.old.files.items self.new.files.items }
         ensures only { OpensNone self.old.files.items self.new.files.items }
+        ensures more { (name : List ℕ) → IsNamedAt name place self.old.files.items
+            → AwaitsNoMore (λ other mark. (name ≡ other) × (mark ≡ Awaits.Data)) self.old.files.items self.new.files.items }
         ensures names { self.new.names_await ≡ self.old.names_await }
         ensures directory { self.new.directory ≡ self.old.directory }
     {
@@ -189,6 +194,8 @@ impl<F: SystemFile + Drop> KeptFiles<F> {
         ensures cut { (file : F) → IsFileAt place self.old.files.items file → OnOk result (F.answered (CutTo to) file) }
         ensures still { StillAwaits self.old.files.items self.new.files.items }
         ensures only { OpensNone self.old.files.items self.new.files.items }
+        ensures more { (name : List ℕ) → IsNamedAt name place self.old.files.items
+            → AwaitsNoMore (λ other _. name ≡ other) self.old.files.items self.new.files.items }
         ensures names { self.new.names_await ≡ self.old.names_await }
         ensures directory { self.new.directory ≡ self.old.directory }
     {

@@ -1,11 +1,11 @@
-use Rattle.std.proofs.Common.{◌∙◌, subst}
+use Rattle.std.proofs.Common.{◌∙◌, subst, inl}
 use Rattle.std.specs.Prelude.{IfSome}
 use Rattle.weed_base.specs.System.{CutTo}
 use Rattle.weed_base.specs.Awaiting.{Awaiting, IsNamedAt}
 use Rattle.weed_base.specs.Folder.{path_of}
 use Rattle.weed_base.specs.declared.real.kept.Awaits.TheVariants.{Everything}
 use Rattle.weed_base.proofs.AwaitingLemmas.{on_ok}
-use Rattle.weed_base.proofs.FolderLemmas.{at_found, of_placed, keeps_along, keeps_by, opens_none}
+use Rattle.weed_base.proofs.FolderLemmas.{at_found, of_placed, keeps_along, keeps_by, opens_none, marks_along, marks_none}
 use Rattle.weed_base.proofs.real.folder.Folder.cut.Goals as goal
 
 pub returns-in-Some-clause-cut : goal.returns-in-Some-clause-cut
@@ -21,3 +21,14 @@ returns-in-Some-clause-keeps g c =
     keeps_along g.R.System.answered c.place_of.ensures.keeps
     (keeps_by g.R.System.answered c.place_of.new.self c.cut.new.self (opens_none g.R.System.answered c.place_of.new.self c.cut.new.self c.cut.ensures.only)
     c.cut.ensures.still (λ was. c.cut.ensures.names ∙ was) c.cut.ensures.directory)
+
+pub returns-in_err-place-clause-more : goal.returns-in_err-place-clause-more
+returns-in_err-place-clause-more g c = marks_none c.place_of.ensures.more
+
+pub returns-in-None-clause-more : goal.returns-in-None-clause-more
+returns-in-None-clause-more g c = marks_none c.place_of.ensures.more
+
+pub returns-in-Some-clause-more : goal.returns-in-Some-clause-more
+returns-in-Some-clause-more g c =
+    let named = subst (λ found. IfSome found (λ place. IsNamedAt c.args.name.now place c.place_of.new.self.kept.files.items)) c.in-Some.is c.in_ok-place.ensures.place in
+    marks_along c.place_of.ensures.more (record { files = c.cut.ensures.more c.args.name.now named; names = inl c.cut.ensures.names })

@@ -1,11 +1,11 @@
-use Rattle.std.proofs.Common.{◌∙◌, inl, subst}
+use Rattle.std.proofs.Common.{◌∙◌, inl, inr, subst, rules}
 use Rattle.std.specs.Prelude.{IfSome}
 use Rattle.weed_base.specs.System.{CutTo}
 use Rattle.weed_base.specs.Awaiting.{Awaiting, IsNamedAt}
 use Rattle.weed_base.specs.declared.real.kept.Awaits.TheVariants.{Everything}
 use Rattle.weed_base.proofs.AwaitingLemmas.{on_ok}
 use Rattle.weed_base.specs.Folder.{path_of}
-use Rattle.weed_base.proofs.FolderLemmas.{at_found, of_placed, keeps_along, keeps_by, opens_none}
+use Rattle.weed_base.proofs.FolderLemmas.{at_found, of_placed, keeps_along, keeps_by, opens_none, marks_along, marks_none}
 use Rattle.weed_base.proofs.real.folder.Folder.make.Goals as goal
 
 pub returns-in-Some-clause-made : goal.returns-in-Some-clause-made
@@ -22,3 +22,15 @@ returns-in-Some-clause-keeps g c = keeps_along g.R.System.answered c.place_of.en
 
 pub returns-in-None-clause-keeps : goal.returns-in-None-clause-keeps
 returns-in-None-clause-keeps g c = keeps_along g.R.System.answered c.place_of.ensures.keeps c.make_new.ensures.keeps
+
+pub returns-in_err-place-clause-more : goal.returns-in_err-place-clause-more
+returns-in_err-place-clause-more g c = marks_none c.place_of.ensures.more
+
+pub returns-in-Some-clause-more : goal.returns-in-Some-clause-more
+returns-in-Some-clause-more g c =
+    let named = subst (λ found. IfSome found (λ place. IsNamedAt c.args.name.now place c.place_of.new.self.kept.files.items)) c.in-Some.is c.in_ok-place.ensures.place in
+    marks_along c.place_of.ensures.more (record { files = c.cut.ensures.more c.args.name.now named; names = inl c.cut.ensures.names })
+
+pub returns-in-None-clause-more : goal.returns-in-None-clause-more
+returns-in-None-clause-more g c =
+    marks_along c.place_of.ensures.more (record { files = c.make_new.ensures.more; names = inr (search rules) })

@@ -2,7 +2,7 @@ use Rattle.std.proofs.Common.{sym, ◌∙◌, inr, subst, List, ℕ, Option, Mat
 use Rattle.weed_base.specs.System.{PathCall, Opened, Missed}
 use Rattle.weed_base.specs.Folder.{path_of}
 use Rattle.weed_base.proofs.AwaitingLemmas.{named_at_position}
-use Rattle.weed_base.proofs.FolderLemmas.{stands_open}
+use Rattle.weed_base.proofs.FolderLemmas.{stands_open, marks_nothing}
 use Rattle.weed_base.proofs.real.folder.Folder.place_of.Goals as goal
 
 pub returns-in-Some-clause-place : goal.returns-in-Some-clause-place
@@ -20,3 +20,9 @@ returns-clause-opened g c =
       c.in_ok-keep.ensures.kept.1,
       inr (subst (λ (path : List ℕ). answered (Opened path c.in-Some-2.file)) (c.as_str.ensures.value ∙ c.in_ok-path.ensures) opened),
     )
+
+pub returns-in_err-keep-clause-more : goal.returns-in_err-keep-clause-more
+returns-in_err-keep-clause-more g c = marks_nothing c.keep.ensures.more
+
+pub returns-clause-more : goal.returns-clause-more
+returns-clause-more g c = marks_nothing c.keep.ensures.more

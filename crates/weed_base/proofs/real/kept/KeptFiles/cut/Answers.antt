@@ -1,9 +1,9 @@
-use Rattle.std.proofs.Common.{◌≡◌, sym, subst, ap, ◌∙◌, OnOk}
+use Rattle.std.proofs.Common.{◌≡◌, sym, subst, ap, ◌∙◌, OnOk, inr}
 use Rattle.weed_base.specs.System.{CutTo}
 use Rattle.weed_base.specs.Awaiting.{Covers}
 use Rattle.weed_base.specs.declared.real.kept.Awaits.TheVariants.{Everything}
 use Rattle.weed_base.proofs.ListLemmas.{set_any}
-use Rattle.weed_base.proofs.AwaitingLemmas.{still_set, named_set, covers_all}
+use Rattle.weed_base.proofs.AwaitingLemmas.{still_set, named_set, no_more_set, covers_all}
 use Rattle.weed_base.proofs.real.kept.KeptFiles.cut.Goals as goal
 
 pub returns-clause-marked : goal.returns-clause-marked
@@ -21,3 +21,8 @@ pub returns-clause-only : goal.returns-clause-only
 returns-clause-only g c = λ name file.
     set_any (λ kept. (kept.name ≡ name) × (kept.file ≡ file)) _ c.args.place c.index_mut.result.now c.cut.new.self c.requires c.index_mut.ensures.value
     (λ new. (sym c.cut.ensures.name ∙ new.0, sym c.cut.ensures.file ∙ new.1))
+
+pub returns-clause-more : goal.returns-clause-more
+returns-clause-more g c = λ name named.
+    no_more_set (λ other mark. name ≡ other) _ _ c.index_mut.result.now c.cut.new.self c.requires c.index_mut.ensures.value c.cut.ensures.name c.cut.ensures.file
+    (λ mark something covers. inr (sym (ap (λ kept. kept.name) c.index_mut.ensures.value ∙ named.1 c.index_mut.result.now)))

@@ -1,7 +1,7 @@
 use Rattle.std.proofs.Common.{◌≡◌, ◌⊎◌, refl, inl, inr, subst, List}
 use Rattle.std.proofs.lemmas.List.Elements.{All-push}
 use Rattle.std.proofs.lemmas.List.Quantifiers.{Any-push}
-use Rattle.weed_base.specs.Awaiting.{Covers, IsOpenAs, AwaitsSomething}
+use Rattle.weed_base.specs.Awaiting.{Covers, Awaiting, IsOpenAs, AwaitsSomething}
 use Rattle.weed_base.specs.declared.real.kept.KeptFile.{KeptFile}
 use Rattle.weed_base.proofs.ListLemmas.{push_any}
 use Rattle.weed_base.proofs.AwaitingLemmas.{still_push, covers_same}
@@ -37,3 +37,18 @@ pub returns-clause-few : goal.returns-clause-few
 returns-clause-few g c = λ many.
     let some : KeptFile g.row.F.Denot → Type 0 = λ kept. AwaitsSomething kept ⊎ (kept ≡ c.args.opened) in
     rw c.in_ok-push.ensures.items (All-push some c.let_idle_go.new.self.files.items c.args.opened (λ k d below. inl (c.let_idle_go.ensures.few many k d below)) (inr refl))
+
+pub returns-in_err-push-clause-more : goal.returns-in_err-push-clause-more
+returns-in_err-push-clause-more g c = λ name file mark something found.
+    elim (c.let_idle_go.ensures.more name file mark something (subst (λ (files : List (KeptFile g.row.F.Denot)). Awaiting name file mark files) c.in_err-push.ensures.items found)) [
+      | inl was ↦ inl was
+      | inr none ↦ absurd none
+    ]
+
+pub returns-clause-more : goal.returns-clause-more
+returns-clause-more g c = λ name file mark something found.
+    let there = subst (λ (files : List (KeptFile g.row.F.Denot)). Awaiting name file mark files) c.in_ok-push.ensures.items found in
+    elim (push_any (λ kept. (kept.name ≡ name) × ((kept.file ≡ file) × Covers kept.awaits mark)) c.let_idle_go.new.self.files.items c.args.opened there) [
+      | inl was ↦ elim (c.let_idle_go.ensures.more name file mark something was) [ inl stood ↦ inl stood | inr none ↦ absurd none ]
+      | inr new ↦ inr (new.0, new.1.1)
+    ]

@@ -1,9 +1,9 @@
-use Rattle.std.proofs.Common.{◌≡◌, sym, subst, ap, ◌∙◌, OnOk}
+use Rattle.std.proofs.Common.{◌≡◌, sym, subst, ap, ◌∙◌, OnOk, inl, inr}
 use Rattle.weed_base.specs.System.{Wrote}
 use Rattle.weed_base.specs.Awaiting.{Covers}
 use Rattle.weed_base.specs.declared.real.kept.Awaits.TheVariants.{Data}
 use Rattle.weed_base.proofs.ListLemmas.{set_any}
-use Rattle.weed_base.proofs.AwaitingLemmas.{still_set, named_set}
+use Rattle.weed_base.proofs.AwaitingLemmas.{still_set, named_set, no_more_set, rises_to_data}
 use Rattle.weed_base.proofs.real.kept.KeptFiles.write_at.Goals as goal
 
 pub returns-clause-marked : goal.returns-clause-marked
@@ -21,3 +21,9 @@ pub returns-clause-only : goal.returns-clause-only
 returns-clause-only g c = λ name file.
     set_any (λ kept. (kept.name ≡ name) × (kept.file ≡ file)) _ c.args.place c.index_mut.result.now c.write_at.new.self c.requires c.index_mut.ensures.value
     (λ new. (sym c.write_at.ensures.name ∙ new.0, sym c.write_at.ensures.file ∙ new.1))
+
+pub returns-clause-more : goal.returns-clause-more
+returns-clause-more g c = λ name named.
+    let is = ap (λ kept. kept.name) c.index_mut.ensures.value ∙ named.1 c.index_mut.result.now in
+    no_more_set (λ other mark. (name ≡ other) × (mark ≡ Data)) _ _ c.index_mut.result.now c.write_at.new.self c.requires c.index_mut.ensures.value c.write_at.ensures.name c.write_at.ensures.file
+    (λ mark something covers. elim (rises_to_data _ _ mark c.write_at.ensures.mark something covers) [ inl was ↦ inl was | inr is_data ↦ inr (sym is, is_data) ])
