@@ -1,7 +1,7 @@
 -- What an object of the outside tells of its contents, and how it counts its faults.
 -- An object that is told gives its contents as `Some`, one that isn't gives `None`. A clause on contents
 -- holds where they are told, and a clause on causes always.
-use Rattle.std.specs.Prelude.{◌≡◌, ℕ, ◌+◌, ◌-◌, ◌^◌, ◌≤◌, ◌<◌, min, max, List, [], ◌++◌, length, take, Ok, MatchResult, IfOk, OnErr, Option, Result}
+use Rattle.std.specs.Prelude.{◌≡◌, ℕ, ◌+◌, ◌-◌, ◌^◌, ◌≤◌, ◌<◌, ◌⊎◌, min, max, List, [], ◌++◌, length, take, Ok, MatchResult, IfOk, IsErr, OnErr, Option, Result}
 use Rattle.std.specs.Option.{option_map}
 
 -- The count after one more. It stays at the end of its type.
@@ -27,6 +27,16 @@ pub record HasWriteCause {E : Type 0} (before now : ℕ) (result : Result ℕ E)
   pub taken : IfOk result (λ count. min 1 (length piece) ≤ count → now ≡ before)
   pub idle : result ≡ Ok 0 → 0 < length piece → Rose before now
   pub failed : OnErr result (Rose before now)
+
+-- The count went up by one where this is so, and stays as it was where it isn't.
+pub record CountsOne (before now : ℕ) (Fault : Type 0) : Type 0 where
+  pub later : before ≤ now
+  pub quiet : ¬ Fault → now ≡ before
+  pub failed : Fault → now ≡ raised before
+
+-- A write failed, or took nothing of a piece that isn't empty.
+abbrev pub IsWriteFault : {E : Type 0} → Result ℕ E → List ℕ → Type 0
+IsWriteFault result piece = IsErr result ⊎ ((result ≡ Ok 0) × (0 < length piece))
 
 -- What was left began with these bytes, and has lost them.
 abbrev pub Consumes : Option (List ℕ) → Option (List ℕ) → List ℕ → Type 0
