@@ -10,7 +10,7 @@ use Rattle.meta_log.specs.Segment.{IsShort, item, items}
 use Rattle.meta_log.specs.LogText.{segment_name}
 use Rattle.meta_log.specs.Stretch.{Stretch, IsOf}
 use Rattle.meta_log.specs.Held.{IsHeld}
-use Rattle.meta_log.specs.Left.{IsLeft, batch_from, IsWhole}
+use Rattle.meta_log.specs.Left.{IsLeft, batch_from, FillsOrEnds}
 use Rattle.meta_log.specs.Places.{place_behind, HoldsPlace, IsNext}
 use Rattle.meta_log.specs.declared.gate_log.GateLog.{GateLog}
 use Rattle.meta_log.specs.declared.place.Place.{Place}
@@ -116,7 +116,7 @@ items_past (text ∷ texts) most some reach = omega (arith, reach, bytes_within 
 
 -- Where no file is so long that they reach the bound, they fill the room, or the gate is reached.
 pub whole_by_room : (room most gate at begun next : ℕ) (collected texts : List (List ℕ)) → texts ≡ collected → next ≡ at → at ≡ begun + length (items collected) → 0 < most → next < most + 5
-    → IsWhole room most gate at collected → (length texts ≡ room) ⊎ (gate ≤ next)
+    → FillsOrEnds room most gate at collected → (length texts ≡ room) ⊎ (gate ≤ next)
 whole_by_room room most gate at begun next collected texts same next_is at_is some below (inl full) = inl (ap length same ∙ full)
 whole_by_room room most gate at begun next collected texts same next_is at_is some below (inr (inl reach)) = absurd (omega (arith, items_past collected most some reach, at_is, next_is, below))
 whole_by_room room most gate at begun next collected texts same next_is at_is some below (inr (inr end)) = inr (omega (arith, end, next_is))

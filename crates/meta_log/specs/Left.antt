@@ -39,5 +39,5 @@ abbrev pub batch : ℕ → List (List ℕ) → List (List ℕ)
 batch room texts = batch_from 67108864 room 0 texts
 
 -- The texts fill the room, or have so many bytes, or the place behind them is the gate or past it.
-abbrev pub IsWhole : ℕ → ℕ → ℕ → ℕ → List (List ℕ) → Type 0
-IsWhole room most gate at texts = (length texts ≡ room) ⊎ (most ≤ sum_by length texts) ⊎ (gate ≤ at)
+abbrev pub FillsOrEnds : ℕ → ℕ → ℕ → ℕ → List (List ℕ) → Type 0
+FillsOrEnds room most gate at texts = (length texts ≡ room) ⊎ (most ≤ sum_by length texts) ⊎ (gate ≤ at)

@@ -5,7 +5,7 @@ ghost use Rattle.weed_base.specs.Images.{OnlyReads};
 ghost use Rattle.weed_base.specs.Beside.{StaysBeside};
 ghost use Rattle.meta_log.specs.Stretch.{IsOf};
 ghost use Rattle.meta_log.specs.Head.{HasItem};
-ghost use Rattle.meta_log.specs.Left.{among_items, IsLeft, MeetsNext, TakesNext, batch_from, IsWhole};
+ghost use Rattle.meta_log.specs.Left.{among_items, IsLeft, MeetsNext, TakesNext, batch_from, FillsOrEnds};
 ghost use Rattle.meta_log.specs.LogText.{segment_name};
 ghost use Rattle.meta_log.specs.Segment.{items};
 ghost use Rattle.meta_log.specs.Faults.{IfDamaged};
@@ -110,7 +110,7 @@ pub fn collect<D: Disk>(
     requires of { IfSome (D.files disk.old) (λ files. IsOf (content files name.now) reading.old) }
     ensures texts { IfOk result (λ texts. IfSome (D.files disk.old) (λ files.
         (left : List (List ℕ)) → IsLeft (content files name.now) gate reading.old.at left → texts.items ≡ batch_from most room 0 left)) }
-    ensures whole { IfOk result (λ texts. IsWhole room most gate reading.new.at texts.items) }
+    ensures whole { IfOk result (λ texts. FillsOrEnds room most gate reading.new.at texts.items) }
     ensures place { IfOk result (λ texts. reading.new.at ≡ reading.old.at + length (items texts.items)) }
     ensures damaged { IfErr result (IfDamaged (λ _ _. IfSome (D.files disk.old) (λ files.
         (left : List (List ℕ)) → ¬ IsLeft (content files name.now) gate reading.old.at left))) }
