@@ -6,7 +6,7 @@ use Rattle.name_core.specs.Log.{TimesRise}
 use Rattle.meta_log.specs.Held.{IsHeld}
 use Rattle.meta_log.specs.Records.{ReadAs, front_of_records}
 use Rattle.meta_log.specs.Kept.{IsKept, Keeps}
-use Rattle.meta_log.specs.Places.{place_behind, HoldsPlace, IsNext}
+use Rattle.meta_log.specs.Places.{place_behind, IsNext}
 use Rattle.meta_log.specs.RecordPlaces.{LiesBetween, KeepsPlace, AreNext}
 use Rattle.meta_log.specs.declared.meta_log.MetaLog.{MetaLog}
 use Rattle.meta_log.specs.declared.place.Place.{Place}
