@@ -191,9 +191,8 @@ impl Path {
         Ok(Some(Path::of_spelling(alloc, &bytes[..slash])?))
     }
 
-    /// The path of its first parts.
+    /// The path of its first parts, all of them where it has fewer.
     pub fn prefix(&self, alloc: Global, parts: usize) -> Result<Path, AllocError>
-        requires { parts ≤ length self.now }
         ensures { IfOk result (λ prefix. prefix ≡ take parts self.now) }
     {
         let bytes = self.bytes.as_slice();
