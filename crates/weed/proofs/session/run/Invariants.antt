@@ -3,7 +3,6 @@ use Rattle.weed_base.specs.Files.{BothTold}
 use Rattle.weed_base.specs.Sent.{bytes_sent}
 use Rattle.name_core.specs.declared.change.Record.{Record}
 use Rattle.meta_log.specs.Images.{ImagesKeep}
-use Rattle.meta_log.specs.declared.stem.Stem.TheVariants.{Log}
 use Rattle.weed.specs.Growth.{GrowsByRecords}
 use Rattle.weed.specs.Filer.{HoldsFiler}
 use Rattle.weed.specs.Session.{State, Turns, ReadsAlong, last_of}
