@@ -1,9 +1,9 @@
 -- The plan of new directories, one prefix after another.
-use Rattle.std.proofs.Common.{◌≡◌, ℕ, suc, ◌+◌, ◌<◌, ◌≤◌, true, false, cond, List, [], ◌∷◌, ◌++◌, length, take, drop, get_or, Some, None, Ok, Err, Option, Result, refl, sym, ap, ◌∙◌, subst, arith, length-append, append_assoc, append-nil, drop-cons, add-one}
+use Rattle.std.proofs.Common.{◌≡◌, ℕ, suc, ◌+◌, ◌<◌, ◌≤◌, true, false, cond, List, [], ◌∷◌, ◌++◌, length, take, drop, get_or, Some, None, Ok, Err, Option, Result, refl, sym, ap, ◌∙◌, subst, arith, length-append, append_assoc, drop-cons, add-one}
 use Rattle.std.specs.Prelude.{IfSome, All, is_none}
 use Rattle.std.specs.FinMap.{get}
 use Rattle.std.proofs.Math.Seq.{take-suc}
-use Rattle.std.proofs.lemmas.List.{take-append-drop, length-take-le, drop_all}
+use Rattle.std.proofs.lemmas.List.{take-append-drop, length-take-le}
 use Rattle.std.proofs.lemmas.List.Elements.{All-nil, All-push}
 use Rattle.weed_base.specs.Path.{IsPath}
 use Rattle.weed_base.proofs.PathLemmas.{IsPath-front}

@@ -1,5 +1,5 @@
 -- What reading an item answers: which item a text begins with, and when each refusal comes.
-use Rattle.std.specs.Prelude.{◌≡◌, ◌≢◌, ℕ, ◌+◌, ◌^◌, ◌<◌, ◌≤◌, true, false, List, ◌++◌, length}
+use Rattle.std.specs.Prelude.{◌≡◌, ◌≢◌, ℕ, ◌+◌, ◌^◌, ◌<◌, true, false, List, ◌++◌, length}
 use Rattle.needle.specs.declared.fault.NeedleFault.{NeedleFault}
 use Rattle.needle.specs.declared.fault.NeedleFault.TheVariants.{Truncated, SizeMismatch, ReservedSet, Compressed, Manifest, ChecksumMismatch}
 use Rattle.needle.specs.declared.item.Item.{Item}
@@ -11,7 +11,6 @@ use Rattle.needle.specs.declared.version.Version.TheVariants.{V2, V3}
 use Rattle.needle.specs.Crc.{checksum}
 use Rattle.needle.specs.Fields.{size_in, counted_in, checksum_in, IsWhole, IsTruncated}
 use Rattle.needle.specs.Item.{Marks, IsNeedle, counted, content, body_of, item_front, padding_len}
-use Rattle.needle.specs.Layout.{padded}
 
 -- ---- what is read
 

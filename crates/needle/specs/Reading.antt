@@ -1,6 +1,6 @@
 -- How the code reads, from left to right: a value and the bytes behind it, or None where the
 -- bytes end before it does.
-use Rattle.std.specs.Prelude.{◌≡◌, ℕ, ◌≤◌, Bool, true, false, not, nat_lt, ◌==◌, if◌then◌else◌, List, [], ◌∷◌, ◌++◌, length, take, drop, Option, Some, None, option_map, option_and_then, option_copied, bit_and, Result, Ok, Err, IsOk}
+use Rattle.std.specs.Prelude.{◌≡◌, ℕ, Bool, true, false, not, nat_lt, ◌==◌, if◌then◌else◌, List, [], ◌∷◌, ◌++◌, length, take, drop, Option, Some, None, option_map, option_and_then, option_copied, bit_and, Result, Ok, Err, IsOk}
 use Rattle.std.specs.Int.{w8, w16, w32, w64, from_be_bytes}
 use Rattle.needle.specs.declared.fault.NeedleFault.{NeedleFault}
 use Rattle.needle.specs.declared.fault.NeedleFault.TheVariants.{Truncated, SizeMismatch, ReservedSet, Compressed, Manifest, ChecksumMismatch, Memory}

@@ -21,8 +21,8 @@ ghost use Rattle.weed.specs.Run.{Starts, Begins, EndsRun, EndsUnread, IsEarly, I
 use crate::exit::Exit;
 use crate::inbox::Inbox;
 use crate::plain_filer::PlainFiler;
-use crate::session::{Session, run};
 use crate::ready::ReadyAnswers;
+use crate::session::{Session, run};
 use crate::words::{Order, read_words};
 use crate::world::World;
 use meta_log::LogFault;

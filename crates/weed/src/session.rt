@@ -18,8 +18,8 @@ ghost use Rattle.weed.specs.Tells.{Sends, Tells, Asking, Leads, Ends, IsTurnEnd,
 use crate::exit::Exit;
 use crate::inbox::{Head, Inbox, next_head};
 use crate::plain_filer::PlainFiler;
-use crate::reply::{ReplyFault, reply_to_target};
 use crate::ready::ReadyAnswers;
+use crate::reply::{ReplyFault, reply_to_target};
 use crate::world::World;
 use crate::write::{WriteFault, send_all};
 use std::alloc::Global;
