@@ -41,11 +41,12 @@ IsEarly exit.WriteFault = ⊥
 IsEarly exit.TurnsSpent = ⊥
 IsEarly (exit.BadWords place) = ⊥
 
--- A run ended before its session: it read nothing and sent nothing.
-pub record EndsUnread {S : Type 0} (end : Exit) (sent sent' : Option (List Piece)) (source source' : S) : Type 0 where
+-- A run ended before its session: it read nothing, sent nothing and asked for no moment.
+pub record EndsUnread {S C : Type 0} (end : Exit) (sent sent' : Option (List Piece)) (source source' : S) (clock clock' : C) : Type 0 where
   pub early : IsEarly end
   pub unsent : sent' ≡ sent
   pub unread : source' ≡ source
+  pub unasked : clock' ≡ clock
 
 -- A run ends as its session does, or before it. `Cut` says that a send failed, `Unread` that nothing was read, and
 -- `Leaves` what came of the run where its own logs are these: those of its session, or none.

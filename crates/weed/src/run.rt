@@ -89,12 +89,12 @@ pub fn weed<S: Source, H: Host, C: Clock>(
     // Over files that are no log the run ends before it reads or sends anything, and leaves them as they are.
     ensures unreadable { (dir : List ℕ) (files : Files) → order_of words.now ≡ Ok dir → H.files world.host ≡ Some files
         → ((records : List Record) → ¬ IsRecordLog files records)
-        → EndsUnread result.0 (H.sent world.host) (H.sent result.1.host) world.source result.1.source
+        → EndsUnread result.0 (H.sent world.host) (H.sent result.1.host) world.source result.1.source world.clock result.1.clock
         × (H.files result.1.host ≡ H.files world.host) }
 
     // Memory that was wanting and damage end a run before its session, whatever the outside tells.
     ensures unserved { (dir : List ℕ) → order_of words.now ≡ Ok dir → ¬ IsSessionEnd result.0
-        → EndsUnread result.0 (H.sent world.host) (H.sent result.1.host) world.source result.1.source }
+        → EndsUnread result.0 (H.sent world.host) (H.sent result.1.host) world.source result.1.source world.clock result.1.clock }
     ensures words { (place : ℕ) → (result.0 ≡ Exit.BadWords place) ↔ (order_of words.now ≡ Err place) }
     ensures untouched { (place : ℕ) → order_of words.now ≡ Err place → result.1 ≡ world }
     ensures damaged { IfDamagedExit
@@ -112,7 +112,7 @@ pub fn weed<S: Source, H: Host, C: Clock>(
     ensures attached { (dir : List ℕ) → order_of words.now ≡ Ok dir
         → (H.attachment result.1.host ≡ attached_to dir (H.tick world.host) (H.attachment world.host))
         ⊎ ((H.attachment result.1.host ≡ H.attachment world.host)
-        × EndsUnread result.0 (H.sent world.host) (H.sent result.1.host) world.source result.1.source) }
+        × EndsUnread result.0 (H.sent world.host) (H.sent result.1.host) world.source result.1.source world.clock result.1.clock) }
 {
     let mut world = world;
     match read_words(words) {
@@ -138,9 +138,9 @@ fn filer_once<S: Source, H: Host, C: Clock>(
         IsOwn (H.images world.old.host) → Survives H.tick H.images H.image_since H.sent world.old.host world.new.host result first path last of_run)
         × ReadsNoMore S.left S.reads world.old.source world.new.source first path }
     ensures unreadable { (files : Files) → H.files world.old.host ≡ Some files → ((records : List Record) → ¬ IsRecordLog files records)
-        → EndsUnread result (H.sent world.old.host) (H.sent world.new.host) world.old.source world.new.source
+        → EndsUnread result (H.sent world.old.host) (H.sent world.new.host) world.old.source world.new.source world.old.clock world.new.clock
         × (H.files world.new.host ≡ H.files world.old.host) }
-    ensures unserved { ¬ IsSessionEnd result → EndsUnread result (H.sent world.old.host) (H.sent world.new.host) world.old.source world.new.source }
+    ensures unserved { ¬ IsSessionEnd result → EndsUnread result (H.sent world.old.host) (H.sent world.new.host) world.old.source world.new.source world.old.clock world.new.clock }
     ensures good_words { (place : ℕ) → result ≡ Exit.BadWords place → ⊥ }
     ensures damaged { IfDamagedExit
         (λ file at. IfSome (H.files world.old.host) (λ files. IsRecordDamage files file at) × (H.files world.new.host ≡ H.files world.old.host)) result }
@@ -151,7 +151,7 @@ fn filer_once<S: Source, H: Host, C: Clock>(
     ensures grows { BothTold GrowsByRecords (H.files world.old.host) (H.files world.new.host) }
     ensures attached { (H.attachment world.new.host ≡ attached_to dir.now (H.tick world.old.host) (H.attachment world.old.host))
         ⊎ ((H.attachment world.new.host ≡ H.attachment world.old.host)
-        × EndsUnread result (H.sent world.old.host) (H.sent world.new.host) world.old.source world.new.source) }
+        × EndsUnread result (H.sent world.old.host) (H.sent world.new.host) world.old.source world.new.source world.old.clock world.new.clock) }
 {
     match begin(alloc, dir, &mut world.host) {
         Ok(mut session) => run(alloc, &mut session, world),

@@ -71,7 +71,7 @@ returns-in-Ok-clause-unreadable g c files told none =
 pub returns-in-Err-clause-unreadable : goal.returns-in-Err-clause-unreadable
 returns-in-Err-clause-unreadable g c files told none =
     let disk = g.H.Disk in (
-      record { early = c.in-Err.ensures.early; unsent = c.in-Err.ensures.sent.0; unread = refl },
+      record { early = c.in-Err.ensures.early; unsent = c.in-Err.ensures.sent.0; unread = refl; unasked = refl },
       no_log_stays (disk.files c.args.world.now.host) (disk.files c.begin.new.host) files told none c.in-Err.ensures.made,
     )
 
@@ -82,7 +82,7 @@ pub returns-in-Ok-clause-unserved : goal.returns-in-Ok-clause-unserved
 returns-in-Ok-clause-unserved g c unserved = absurd (unserved c.run.ensures.kind)
 
 pub returns-in-Err-clause-unserved : goal.returns-in-Err-clause-unserved
-returns-in-Err-clause-unserved g c unserved = record { early = c.in-Err.ensures.early; unsent = c.in-Err.ensures.sent.0; unread = refl {a = c.args.world.now.source} }
+returns-in-Err-clause-unserved g c unserved = record { early = c.in-Err.ensures.early; unsent = c.in-Err.ensures.sent.0; unread = refl {a = c.args.world.now.source}; unasked = refl {a = c.args.world.now.clock} }
 
 pub returns-in-Ok-clause-grows : goal.returns-in-Ok-clause-grows
 returns-in-Ok-clause-grows g c =
