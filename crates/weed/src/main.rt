@@ -23,7 +23,7 @@ use std::env;
 use std::io::{self, Write};
 use std::process::ExitCode;
 use weed_base::{
-    DirDisk, SinkHost, StandardError, StandardInput, StandardOutput, SystemClock, Word,
+    DirDisk, DiskHost, StandardError, StandardInput, StandardOutput, SystemClock, Word,
 };
 
 /// What `weed --help` tells.
@@ -51,7 +51,7 @@ fn main(rt: HostRuntime) -> ExitCode {
         words => {
             let world = World {
                 source: StandardInput::new(rt.stdin()),
-                host: SinkHost::new(DirDisk::new(rt), StandardOutput::new(rt.stdout())),
+                host: DiskHost::of(DirDisk::new(rt), StandardOutput::new(rt.stdout())),
                 clock: SystemClock::new(rt),
             };
             let (exit, _) = weed(rt.alloc(), words, world);

@@ -102,9 +102,8 @@ WritesOrTears name at piece old new result =
     (λ _. (new.past ≡ with_call (Written name at piece) old) × (new.untold ≡ old.untold))
     (λ _. LeavesTorn (Torn name at (length piece)) old new)
 
--- A host: its disk, the pieces sent, the most that one send takes, and its sends.
-pub record HostState : Type 0 where
-  pub disk : DiskState
+-- An outlet: the pieces sent, the most that one send takes, and its sends.
+pub record OutletState : Type 0 where
   pub pieces : List Piece
   pub most : ℕ
   pub sends : CallState
@@ -113,10 +112,10 @@ pub record HostState : Type 0 where
 abbrev pub piece_code : Coded Piece
 piece_code = code_by (ℕ × List ℕ) (coded× coded_ℕ (coded_list coded_ℕ)) (λ piece. (piece.tick, piece.bytes)) (λ p. record { tick = p.0; bytes = p.1 }) (λ _. refl)
 
--- The code of what a host holds: that of its fields.
-abbrev pub host_code : Coded HostState
-host_code =
-    code_by (DiskState × (List Piece × (ℕ × CallState))) (coded× disk_code (coded× (coded_list piece_code) (coded× coded_ℕ calls_code)))
-    (λ host. (host.disk, (host.pieces, (host.most, host.sends))))
-    (λ p. record { disk = p.0; pieces = p.1.0; most = p.1.1.0; sends = p.1.1.1 })
+-- The code of what an outlet holds: that of its fields.
+abbrev pub outlet_code : Coded OutletState
+outlet_code =
+    code_by (List Piece × (ℕ × CallState)) (coded× (coded_list piece_code) (coded× coded_ℕ calls_code))
+    (λ outlet. (outlet.pieces, (outlet.most, outlet.sends)))
+    (λ p. record { pieces = p.0; most = p.1.0; sends = p.1.1 })
     (λ _. refl)

@@ -5,10 +5,12 @@ mod attachment;
 mod bytes;
 mod clock;
 mod disk;
+mod disk_host;
 mod faults;
 mod file_name;
 mod items;
 mod mem;
+mod outlet;
 mod path;
 mod path_check;
 mod path_fault;
@@ -23,14 +25,18 @@ pub use bytes::{
 };
 pub use clock::Clock;
 pub use disk::{Disk, Host, NamesFault};
+pub use disk_host::{DiskHost, WholeDisk};
 pub use file_name::FileName;
 pub use items::Items;
-pub use mem::{MemClock, MemDisk, MemHost, MemSink, MemSource, NamedBytes, Pick, SentPiece};
+pub use mem::{
+    MemClock, MemDisk, MemHost, MemOutlet, MemSink, MemSource, NamedBytes, Pick, SentPiece,
+};
+pub use outlet::Outlet;
 pub use path::Path;
 pub use path_fault::PathFault;
 pub use real::{
-    DirDisk, ReaderSource, SinkHost, StandardError, StandardInput, StandardOutput, SteadyRead,
-    SteadyWrite, System, SystemClock, SystemFile, WholeDisk, WriterSink,
+    DirDisk, ReaderSource, StandardError, StandardInput, StandardOutput, SteadyRead, SteadyWrite,
+    System, SystemClock, SystemFile, WriterSink,
 };
 pub use sink::Sink;
 pub use source::{Failed, Source};

@@ -3,13 +3,11 @@ mod clock;
 mod dir_disk;
 mod folder;
 mod kept;
-mod sink_host;
 mod streams;
 mod system;
 
 pub use clock::SystemClock;
 pub use dir_disk::DirDisk;
-pub use sink_host::{SinkHost, WholeDisk};
 pub use streams::{
     ReaderSource, StandardError, StandardInput, StandardOutput, SteadyRead, SteadyWrite, WriterSink,
 };

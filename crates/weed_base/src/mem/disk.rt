@@ -1,4 +1,4 @@
-ghost use Rattle.std.specs.Prelude.{◌≡◌, ◌≤◌, ◌<◌, ◌+◌, ◌-◌, ◌^◌, ◌↔◌, [], Some, IfOk, OnOk, IsErr, IsErrOf, MatchResult, IsTrue, false, length};
+ghost use Rattle.std.specs.Prelude.{◌≡◌, ◌≤◌, ◌<◌, ◌+◌, ◌-◌, ◌^◌, ◌↔◌, [], Some, IfOk, OnOk, IsErr, IsErrOf, MatchResult, IsTrue, false, length, refl};
 ghost use Rattle.std.specs.Option.{option_map, option_copied};
 ghost use Rattle.std.specs.FinMap.{get, keys};
 ghost use Rattle.std.proofs.lemmas.Bool.{false≢true};
@@ -15,6 +15,7 @@ ghost use Rattle.weed_base.specs.DiskLaws.{counts_now, only_now, reads_now};
 use crate::attachment::Attachment;
 use crate::bytes::Word;
 use crate::disk::{Disk, NamesFault};
+use crate::disk_host::WholeDisk;
 use crate::faults::Faults;
 use crate::file_name::FileName;
 use crate::items::Items;
@@ -365,4 +366,8 @@ impl Disk for MemDisk {
     {
         self.change(Change::Synced)
     }
+}
+
+impl WholeDisk for MemDisk {
+    ghost whole = { refl };
 }

@@ -14,11 +14,11 @@ ghost use Rattle.weed_base.specs.declared.real.kept.Awaits.TheVariants.{Data, Ev
 use crate::attachment::Attachment;
 use crate::bytes::Word;
 use crate::disk::{Disk, NamesFault};
+use crate::disk_host::WholeDisk;
 use crate::faults::Faults;
 use crate::file_name::FileName;
 use crate::items::Items;
 use crate::real::folder::Folder;
-use crate::real::sink_host::WholeDisk;
 use crate::real::system::{System, SystemFile};
 use crate::source::Failed;
 use std::alloc::{AllocGlobal, Global};

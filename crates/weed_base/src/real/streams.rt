@@ -1,9 +1,10 @@
-ghost use Rattle.std.specs.Prelude.{◌≡◌, IsSome, IsErr, ⊤};
+ghost use Rattle.std.specs.Prelude.{◌≡◌, None, IsSome, IsErr, ⊤};
 ghost use Rattle.std.specs.Io.{ReadsAtMost, WritesAtMost};
 ghost use Rattle.std.specs.Io.KnownBytes.{ReadConsumes, WriteAppends};
 ghost use Rattle.weed_base.specs.Told.{raised, CountsOne, IsWriteFault, Reads, Writes};
 
 use crate::faults::Faults;
+use crate::outlet::Outlet;
 use crate::sink::Sink;
 use crate::source::{Failed, Source};
 use std::io::{self, Cursor, Read, Stderr, Stdin, Stdout, Write};
@@ -206,5 +207,22 @@ impl<W: SteadyWrite> Sink for WriterSink<W> {
     {
         let answer = self.writer.write_once(piece);
         self.faults.note_write(answer, piece)
+    }
+}
+
+/// Each send is one write. The pieces aren't told, but the bytes are, where the writer tells them.
+impl<W: SteadyWrite> Outlet for WriterSink<W> {
+    ghost sent = { λ _. None };
+
+    ghost written = { λ sink. W.contents sink.writer };
+
+    ghost faults = { λ sink. sink.faults };
+
+    fn send(&mut self, _tick: u64, piece: &[u8]) -> Result<usize, Failed>
+        ensures bytes { Writes (W.contents self.old.writer) (W.contents self.new.writer) result piece.now }
+        ensures one { CountsOne self.old.faults self.new.faults (IsWriteFault result piece.now) }
+        ensures once { W.one_write self.old.writer self.new.writer }
+    {
+        self.write(piece)
     }
 }

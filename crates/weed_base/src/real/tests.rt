@@ -1,4 +1,5 @@
-use super::{DirDisk, ReaderSource, SinkHost, SystemClock, WriterSink};
+use super::{DirDisk, ReaderSource, SystemClock, WriterSink};
+use crate::disk_host::DiskHost;
 use crate::trials::{fill, moment, name, read, send, write, write_at};
 use crate::{Disk, Failed, Word};
 use std::fs;
@@ -28,10 +29,10 @@ fn the_system_has_a_clock_past_2020(rt: HostRuntime) {
     assert!(rt; moment(&mut SystemClock::new(rt)) > 1_577_836_800_000_000_000);
 }
 
-type RealHost = SinkHost<DirDisk<HostRuntime>, WriterSink<Vec<u8>>>;
+type RealHost = DiskHost<DirDisk<HostRuntime>, WriterSink<Vec<u8>>>;
 
 fn detached(rt: HostRuntime) -> RealHost {
-    SinkHost::new(DirDisk::new(rt), WriterSink::new(Vec::new(rt.alloc())))
+    DiskHost::of(DirDisk::new(rt), WriterSink::new(Vec::new(rt.alloc())))
 }
 
 /// A host over a directory of that name that isn't there.

@@ -1,12 +1,13 @@
-ghost use Rattle.std.specs.Prelude.{◌≡◌, None, false, refl};
+ghost use Rattle.std.specs.Prelude.{◌≡◌, false, refl};
 ghost use Rattle.std.proofs.lemmas.Bool.{false≢true};
 ghost use Rattle.weed_base.specs.Told.{Writes, HasWriteCause};
+ghost use Rattle.weed_base.specs.Sent.{Sends};
 
 use crate::bytes::Word;
 use crate::disk::{Disk, Host, NamesFault};
 use crate::file_name::FileName;
 use crate::items::Items;
-use crate::sink::Sink;
+use crate::outlet::Outlet;
 use crate::source::Failed;
 use std::alloc::Global;
 
@@ -16,19 +17,19 @@ pub trait WholeDisk: Disk {
     ghost whole: { Self.MARKS_ONLY ≡ false };
 }
 
-/// A host of a disk and a sink, to which it sends. Of what was sent it tells nothing.
-#[derive(Drop)]
-pub struct SinkHost<D, K> {
+/// A host of a disk and an outlet, side by side.
+#[derive(Debug, Drop)]
+pub struct DiskHost<D, K> {
     disk: D,
-    output: K,
+    outlet: K,
 }
 
-impl<D, K> SinkHost<D, K> {
-    /// Of this disk, and sending to this sink.
-    pub fn new(disk: D, output: K) -> SinkHost<D, K>
-        ensures { result ≡ record { disk = disk; output = output } }
+impl<D, K> DiskHost<D, K> {
+    /// Of this disk, and sending through this outlet.
+    pub fn of(disk: D, outlet: K) -> DiskHost<D, K>
+        ensures { result ≡ record { disk = disk; outlet = outlet } }
     {
-        SinkHost { disk, output }
+        DiskHost { disk, outlet }
     }
 
     /// Its disk.
@@ -38,15 +39,23 @@ impl<D, K> SinkHost<D, K> {
         &self.disk
     }
 
-    /// What it sends to.
-    pub fn output(&self) -> &K
-        ensures { result.now ≡ self.now.output }
+    /// What it sends through.
+    pub fn outlet(&self) -> &K
+        ensures { result.now ≡ self.now.outlet }
     {
-        &self.output
+        &self.outlet
+    }
+
+    /// Both.
+    pub(crate) fn into_parts(self) -> (D, K)
+        ensures { result ≡ (self.disk, self.outlet) }
+    {
+        let DiskHost { disk, outlet } = self;
+        (disk, outlet)
     }
 }
 
-impl<D: WholeDisk, K: Sink> Disk for SinkHost<D, K> {
+impl<D: WholeDisk, K: Outlet> Disk for DiskHost<D, K> {
     const MARKS_ONLY: bool = false;
 
     ghost MARKS_ONLY = { false };
@@ -55,9 +64,9 @@ impl<D: WholeDisk, K: Sink> Disk for SinkHost<D, K> {
 
     ghost faults = { λ host. D.faults host.disk };
 
-    ghost sent = { λ _. None };
+    ghost sent = { λ host. K.sent host.outlet };
 
-    ghost send_faults = { λ host. K.faults host.output };
+    ghost send_faults = { λ host. K.faults host.outlet };
 
     ghost attachment = { λ host. D.attachment host.disk };
 
@@ -120,13 +129,14 @@ impl<D: WholeDisk, K: Sink> Disk for SinkHost<D, K> {
     }
 }
 
-impl<D: WholeDisk, K: Sink> Host for SinkHost<D, K> {
+impl<D: WholeDisk, K: Outlet> Host for DiskHost<D, K> {
     fn send(&mut self, piece: &[u8]) -> Result<usize, Failed>
-        ensures written { Writes (K.written self.old.output) (K.written self.new.output) result piece.now }
-        ensures cause { HasWriteCause (K.faults self.old.output) (K.faults self.new.output) result piece.now }
+        ensures pieces { Sends (D.tick self.old.disk) (K.sent self.old.outlet) (K.sent self.new.outlet) result piece.now }
+        ensures written { Writes (K.written self.old.outlet) (K.written self.new.outlet) result piece.now }
+        ensures cause { HasWriteCause (K.faults self.old.outlet) (K.faults self.new.outlet) result piece.now }
         ensures disk { self.new.disk ≡ self.old.disk }
     {
-        self.output.write(piece)
+        self.outlet.send(self.disk.tick(), piece)
     }
 
     ghost whole = { refl };

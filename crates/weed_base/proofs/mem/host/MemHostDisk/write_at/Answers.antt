@@ -1,4 +1,0 @@
-use Rattle.weed_base.proofs.mem.host.MemHostDisk.write_at.Goals as goal
-
-pub returns-clause-images : goal.returns-clause-images
-returns-clause-images c = rw (← c.self.view_is) c.write_at.ensures.images
