@@ -22,7 +22,7 @@ fn shows(
     Ok(())
 }
 
-pub(super) fn image(host: &MemHost, pick: Pick) -> Result<MemDisk, AllocError> {
+fn image(host: &MemHost, pick: Pick) -> Result<MemDisk, AllocError> {
     let disk = host.disk();
     disk.image(disk.tick(), pick)
 }

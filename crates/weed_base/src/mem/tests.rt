@@ -1,6 +1,5 @@
-use super::image_tests::image;
-use super::{MemClock, MemDisk, MemHost, MemSink, MemSource, NamedBytes, Pick};
-use crate::trials::{cut, fill, moment, name, read, send, write, write_at};
+use super::{MemClock, MemDisk, MemHost, MemSink, MemSource, NamedBytes};
+use crate::trials::{cut, fill, moment, name, read, send, write};
 use crate::{Bytes, Disk, Failed, FileName};
 use std::alloc::{AllocError, Global};
 use std::test::Fail;
@@ -102,23 +101,5 @@ fn a_host_keeps_what_it_sent(rt: HostRuntime) -> Result<(), Fail> {
     let last = host.pieces().last();
     assert_eq!(rt; last.map(|piece| piece.as_slice()), Some(b"c".as_slice()));
     assert_eq!(rt; last.map(|piece| piece.tick()), Some(1));
-    Ok(())
-}
-
-#[test]
-fn a_look_settles_nothing_and_leaves_what_was_sent(rt: HostRuntime) -> Result<(), Fail> {
-    let b = name(b"b")?;
-    let mut host = host(rt.alloc(), &[])?;
-    assert_eq!(rt; send(&mut host, b"a"), Ok(1));
-    write_at(&mut host, &b, 2, b"XY")?;
-    assert_eq!(rt; host.size(&b), Ok(Some(4)));
-    assert_eq!(rt; host.names(rt.alloc())?.as_slice().len(), 1);
-    assert_eq!(rt; host.read_at(&b, 0, &mut [0; 4]), Ok(4));
-    assert_eq!(rt;
-        image(&host, Pick::Old)?.content(&b),
-        Some(b"old".as_slice())
-    );
-    assert_eq!(rt; send(&mut host, b"bc"), Ok(2));
-    assert_eq!(rt; host.sent(), b"abc".as_slice());
     Ok(())
 }
