@@ -87,13 +87,13 @@ pub record Makes {T E : Type 0} (change : Change) (old new : DiskState) (result 
 abbrev pub LeavesTorn : Change → DiskState → DiskState → Type 0
 LeavesTorn torn old new =
     ((new.past ≡ with_call torn old) × (new.untold ≡ old.untold))
-    ⊎ ((new.past ≡ old.past) × ((new.untold ≡ raised old.untold) ⊎ (old.calls.made ≡ 2 ^ 64 - 1)))
+    ⊎ ((new.past ≡ old.past) × ((new.untold ≡ raised old.untold) ⊎ ((new.untold ≡ old.untold) × (old.calls.made ≡ 2 ^ 64 - 1))))
 
 -- The same of the calls as they are kept, the oldest first.
 abbrev pub KeepsTorn : Call → List Call → List Call → ℕ → ℕ → Type 0
 KeepsTorn torn old new untold_before untold =
     ((new ≡ old ++ torn ∷ []) × (untold ≡ untold_before) × (torn.tick < 2 ^ 64 - 1))
-    ⊎ ((new ≡ old) × ((untold ≡ raised untold_before) ⊎ (torn.tick ≡ 2 ^ 64 - 1)))
+    ⊎ ((new ≡ old) × ((untold ≡ raised untold_before) ⊎ ((untold ≡ untold_before) × (torn.tick ≡ 2 ^ 64 - 1))))
 
 -- A call wrote, or left its range unsettled where it failed.
 abbrev pub WritesOrTears : {T E : Type 0} → List ℕ → ℕ → List ℕ → DiskState → DiskState → Result T E → Type 0

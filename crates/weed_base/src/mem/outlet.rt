@@ -1,5 +1,5 @@
 ghost use Rattle.std.specs.Prelude.{◌≡◌, [], Some, length, min, IfOk, IsErr, IsTrue};
-ghost use Rattle.weed_base.specs.Told.{Writes, HasWriteCause};
+ghost use Rattle.weed_base.specs.Told.{CountsOne, IsWriteFault, Writes};
 ghost use Rattle.weed_base.specs.Calls.{uncalled, fails_next, IsNextCall};
 ghost use Rattle.weed_base.specs.Sent.{bytes_of, Sends};
 
@@ -101,15 +101,15 @@ impl Outlet for MemOutlet {
         ensures fails { IsTrue (fails_next self.old.sends) → IsErr result }
         ensures sends { IsNextCall self.old.sends self.new.sends }
         ensures most { self.new.most ≡ self.old.most }
-        ensures cause { HasWriteCause self.old.sends.faults self.new.sends.faults result piece.now }
+        ensures one { CountsOne self.old.sends.faults self.new.sends.faults (IsWriteFault result piece.now) }
     {
         self.sends.begin()?;
         let count = piece.len().min(self.most);
-        if count == 0 && !piece.is_empty() {
-            self.sends.fail();
-        }
         if keep_piece(&mut self.pieces, &mut self.bytes, tick, &piece[..count]).is_err() {
             return Err(self.sends.fail());
+        }
+        if count == 0 && !piece.is_empty() {
+            self.sends.fail();
         }
         Ok(count)
     }

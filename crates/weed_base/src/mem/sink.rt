@@ -1,5 +1,5 @@
 ghost use Rattle.std.specs.Prelude.{◌≡◌, [], Some, length, min, IsTrue, IsErr, IfOk};
-ghost use Rattle.weed_base.specs.Told.{Writes, HasWriteCause};
+ghost use Rattle.weed_base.specs.Told.{CountsOne, IsWriteFault, Writes};
 ghost use Rattle.weed_base.specs.Calls.{uncalled, fails_next, IsNextCall};
 
 use crate::mem::calls::Calls;
@@ -67,7 +67,7 @@ impl Sink for MemSink {
 
     fn write(&mut self, piece: &[u8]) -> Result<usize, Failed>
         ensures bytes { Writes (Some self.old.written) (Some self.new.written) result piece.now }
-        ensures cause { HasWriteCause self.old.calls.faults self.new.calls.faults result piece.now }
+        ensures one { CountsOne self.old.calls.faults self.new.calls.faults (IsWriteFault result piece.now) }
         ensures count { IfOk result (λ count. count ≡ min (length piece.now) self.old.most) }
         ensures fails { IsTrue (fails_next self.old.calls) → IsErr result }
         ensures calls { IsNextCall self.old.calls self.new.calls }
@@ -75,11 +75,11 @@ impl Sink for MemSink {
     {
         self.calls.begin()?;
         let count = piece.len().min(self.most);
-        if count == 0 && !piece.is_empty() {
-            self.calls.fail();
-        }
         if self.bytes.extend_from_slice(&piece[..count]).is_err() {
             return Err(self.calls.fail());
+        }
+        if count == 0 && !piece.is_empty() {
+            self.calls.fail();
         }
         Ok(count)
     }

@@ -7,7 +7,7 @@ use crate::faults::Faults;
 use crate::outlet::Outlet;
 use crate::sink::Sink;
 use crate::source::{Failed, Source};
-use std::io::{self, Cursor, Read, Stderr, Stdin, Stdout, Write};
+use std::io::{self, Read, Stderr, Stdin, Stdout, Write};
 
 /// A reader of a type that tells of each of its values what is left, or of none.
 pub trait SteadyRead: Read {
@@ -26,26 +26,6 @@ pub trait SteadyRead: Read {
 
 /// The system tells nothing of its input.
 impl SteadyRead for Stdin {
-    ghost steady = { λ _ _ told. told };
-
-    ghost one_read = { λ _ _. ⊤ };
-
-    fn read_once(&mut self, room: &mut [u8]) -> io::Result<usize> {
-        self.read(room)
-    }
-}
-
-impl SteadyRead for &[u8] {
-    ghost steady = { λ _ _ told. told };
-
-    ghost one_read = { λ _ _. ⊤ };
-
-    fn read_once(&mut self, room: &mut [u8]) -> io::Result<usize> {
-        self.read(room)
-    }
-}
-
-impl SteadyRead for Cursor<Vec<u8>> {
     ghost steady = { λ _ _ told. told };
 
     ghost one_read = { λ _ _. ⊤ };
@@ -82,26 +62,6 @@ impl SteadyWrite for Stdout {
 }
 
 impl SteadyWrite for Stderr {
-    ghost steady = { λ _ _ told. told };
-
-    ghost one_write = { λ _ _. ⊤ };
-
-    fn write_once(&mut self, piece: &[u8]) -> io::Result<usize> {
-        self.write(piece)
-    }
-}
-
-impl SteadyWrite for Vec<u8> {
-    ghost steady = { λ _ _ told. told };
-
-    ghost one_write = { λ _ _. ⊤ };
-
-    fn write_once(&mut self, piece: &[u8]) -> io::Result<usize> {
-        self.write(piece)
-    }
-}
-
-impl SteadyWrite for &mut [u8] {
     ghost steady = { λ _ _ told. told };
 
     ghost one_write = { λ _ _. ⊤ };

@@ -1,10 +1,52 @@
-use super::{DirDisk, ReaderSource, SystemClock, WriterSink};
+ghost use Rattle.std.specs.Prelude.{⊤};
+
+use super::{DirDisk, ReaderSource, SteadyRead, SteadyWrite, SystemClock, WriterSink};
 use crate::disk_host::DiskHost;
 use crate::trials::{fill, moment, name, read, send, write, write_at};
 use crate::{Disk, Failed, Word};
 use std::fs;
-use std::io::Cursor;
+use std::io::{self, Cursor, Read, Write};
 use std::test::Fail;
+
+impl SteadyRead for &[u8] {
+    ghost steady = { λ _ _ told. told };
+
+    ghost one_read = { λ _ _. ⊤ };
+
+    fn read_once(&mut self, room: &mut [u8]) -> io::Result<usize> {
+        self.read(room)
+    }
+}
+
+impl SteadyRead for Cursor<Vec<u8>> {
+    ghost steady = { λ _ _ told. told };
+
+    ghost one_read = { λ _ _. ⊤ };
+
+    fn read_once(&mut self, room: &mut [u8]) -> io::Result<usize> {
+        self.read(room)
+    }
+}
+
+impl SteadyWrite for Vec<u8> {
+    ghost steady = { λ _ _ told. told };
+
+    ghost one_write = { λ _ _. ⊤ };
+
+    fn write_once(&mut self, piece: &[u8]) -> io::Result<usize> {
+        self.write(piece)
+    }
+}
+
+impl SteadyWrite for &mut [u8] {
+    ghost steady = { λ _ _ told. told };
+
+    ghost one_write = { λ _ _. ⊤ };
+
+    fn write_once(&mut self, piece: &[u8]) -> io::Result<usize> {
+        self.write(piece)
+    }
+}
 
 #[test]
 fn a_reader_and_a_writer_are_passed_through(rt: HostRuntime) -> Result<(), Fail> {
