@@ -1,8 +1,9 @@
 -- Records that are skipped by their time.
-use Rattle.std.specs.Prelude.{ℕ, ◌+◌, ◌≤◌, ◌<◌, ◌⊎◌, Bool, List, ◌++◌, length, take, drop, All, MatchBool}
+use Rattle.std.specs.Prelude.{◌≡◌, ℕ, ◌+◌, ◌≤◌, ◌<◌, ◌⊎◌, Bool, List, ◌++◌, length, take, drop, All, MatchBool}
 use Rattle.name_core.specs.declared.change.Record.{Record}
 use Rattle.meta_log.specs.Left.{IsLeft}
 use Rattle.meta_log.specs.Records.{ReadsAs, ReadAs}
+use Rattle.meta_log.specs.Stretch.{Stretch}
 
 -- What is left are records up to that time, and behind them these payloads.
 pub record IsAhead (bytes : List ℕ) (gate after at : ℕ) (past : List (List ℕ)) : Type 0 where
@@ -30,6 +31,17 @@ SkipsTo bytes gate after at later =
 -- What is left aren't records up to the time and behind them records past it.
 abbrev pub NoneAhead : List ℕ → ℕ → ℕ → ℕ → Type 0
 NoneAhead bytes gate after at = (past : List (List ℕ)) → IsAhead bytes gate after at past → ¬ AreLate after past
+
+-- An item was passed over, and its text reads as a record up to the time.
+pub record PassesEarly (after : ℕ) (old new : Stretch) : Type 0 where
+  pub held : List ℕ
+  pub size : ℕ
+  pub known : Record
+  pub whole : 5 + size ≤ length held
+  pub reads : ReadsAs (take size (drop 5 held)) known
+  pub early : known.time ≤ after
+  pub place : new.at ≡ old.at + (5 + size)
+  pub behind : new.held ≡ drop (5 + size) held
 
 -- Behind an open gate and a length these bytes hold the text of a record past the time.
 abbrev pub HoldsLate : ℕ → List ℕ → Type 0

@@ -5,7 +5,7 @@ ghost use Rattle.weed_base.specs.Files.{content};
 ghost use Rattle.weed_base.specs.Images.{OnlyReads};
 ghost use Rattle.weed_base.specs.Beside.{StaysBeside};
 ghost use Rattle.meta_log.specs.Stretch.{IsOf};
-ghost use Rattle.meta_log.specs.Skip.{SkipsOne, SkipsTo, NoneAhead, EndsOrHoldsLate};
+ghost use Rattle.meta_log.specs.Skip.{SkipsOne, SkipsTo, NoneAhead, PassesEarly, EndsOrHoldsLate};
 ghost use Rattle.meta_log.specs.Faults.{IfDamaged};
 ghost use Rattle.name_core.specs.declared.change.Record.{Record};
 ghost use Rattle.name_core.specs.Log.{end_of_time};
@@ -55,6 +55,7 @@ fn skip_one<D: Disk>(
     requires { IfSome (D.files disk.old) (λ files. IsOf (content files name.now) reading.old) }
     ensures of { IfOk result (λ _. IfSome (D.files disk.old) (λ files. IsOf (content files name.now) reading.new)) }
     ensures skips { IfOk result (λ skipped. IfSome (D.files disk.old) (λ files. SkipsOne (content files name.now) gate after reading.old.at reading.new.at skipped)) }
+    ensures early { IfOk result (λ skipped. OnTrue skipped (PassesEarly after reading.old reading.new)) }
     ensures stops { IfOk result (λ skipped. skipped ≡ false → EndsOrHoldsLate gate after reading.new.at reading.new.held) }
     ensures goes { IfOk result (λ skipped. (reading.new.size ≡ reading.old.size) × OnTrue skipped ((reading.old.at < reading.new.at) × (reading.new.at ≤ reading.new.size))) }
     ensures damaged { IfErr result (IfDamaged (λ _ _. IfSome (D.files disk.old) (λ files. NoneAhead (content files name.now) gate after reading.old.at))) }
