@@ -55,6 +55,10 @@ directories_at names time paths = unless_file (first_file names paths) (puts tim
 abbrev pub changes_for : Namespace → ℕ → Command → Result (List Change) Refusal
 changes_for names time (MakeDir path) = directories_at names time (prefixes path)
 
+-- How many paths are looked up for a command at most: each prefix once.
+abbrev pub looks_for : Command → ℕ
+looks_for (MakeDir path) = length path
+
 -- The time of the next record: the clock's, as far as it is past the last one.
 abbrev pub record_time : ℕ → ℕ → ℕ
 record_time clock last = max (min clock end_of_time) (last + 1)

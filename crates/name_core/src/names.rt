@@ -1,4 +1,4 @@
-ghost use Rattle.std.specs.Prelude.{◌≡◌, [], ℕ, Option, IfOk, IfSome, IsNone, IsErrOf};
+ghost use Rattle.std.specs.Prelude.{◌≡◌, ◌≤◌, ◌+◌, [], ℕ, Option, IfOk, IfSome, IsNone, IsErrOf};
 ghost use Rattle.std.specs.FinMap.{get};
 ghost use Rattle.weed_base.specs.Told.{IsCauseOf};
 ghost use Rattle.name_core.specs.Entry.{IsValid};
@@ -43,11 +43,15 @@ pub trait Names {
     /// How many calls failed.
     ghost faults: { Self → ℕ };
 
+    /// How many entries were looked up, where that is counted.
+    ghost looks: { Self → ℕ };
+
     /// The entry at a path; none for the root, which is always a directory and is never in the map.
     fn find(&mut self, alloc: Global, path: &Path) -> Result<Option<Entry>, KeeperFault>
         ensures found { IfOk result (λ found. IfSome (map self.old) (λ names. found ≡ get names path.now)) }
         ensures root { path.now ≡ [] → IfOk result IsNone }
         ensures valid { IfOk result (λ found. IfSome found IsValid) }
         ensures map { map self.new ≡ map self.old }
+        ensures looks { looks self.new ≤ looks self.old + 1 }
         ensures cause { IsCauseOf (faults self.old) (faults self.new) (IsErrOf result KeeperFault.Failed) };
 }

@@ -31,6 +31,8 @@ impl Names for ListedNames<'_> {
 
     ghost faults = { λ names. names.faults };
 
+    ghost looks = { λ _. 0 };
+
     fn find(&mut self, alloc: Global, path: &Path) -> Result<Option<Entry>, KeeperFault> {
         if self.is_failing {
             self.faults = self.faults.saturating_add(1);

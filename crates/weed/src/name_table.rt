@@ -90,6 +90,8 @@ impl Names for NameTable {
 
     ghost faults = { λ _. 0 };
 
+    ghost looks = { λ _. 0 };
+
     fn find(&mut self, alloc: Global, path: &Path) -> Result<Option<Entry>, KeeperFault> {
         match self.entries.get(path) {
             Some(entry) => Ok(Some(entry.copy(alloc)?)),

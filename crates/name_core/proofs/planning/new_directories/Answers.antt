@@ -25,6 +25,7 @@ loop-depth-preserved g c =
     record {
       map = c.find.ensures.map ∙ c.loop-depth.invariant.map;
       faults = c.in_ok-find.ensures.cause.quiet (λ failed. cc) ∙ c.loop-depth.invariant.faults;
+      looks = omega (arith, c.find.ensures.looks, c.loop-depth.invariant.looks);
       front = elim c.match-branch-3.branch [
         | in-None+in_ok-push-in-None w ↦
             front_pushed told _ _ _ _ _ _ _ _ c.loop-depth.invariant.front c.depth-depth-end.ensures.valid (omega arith) (found None w.in-None.is)
