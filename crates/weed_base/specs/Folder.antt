@@ -1,5 +1,5 @@
 -- What the calls of an attached directory ask of the system, and what they keep.
-use Rattle.std.specs.Prelude.{◌≡◌, ◌≢◌, ◌⊎◌, ℕ, true, false, List, string_bytes}
+use Rattle.std.specs.Prelude.{◌≡◌, ◌≢◌, ◌⊎◌, ℕ, true, false, List, [], string_bytes}
 use Rattle.std.specs.Cmp.Lexicographic.{slice_cmp}
 use Rattle.std.specs.Ordering.{nat_cmp}
 use Rattle.std.specs.List.{All, AllZip}
@@ -69,7 +69,8 @@ pub record MarksNoMore {R F : Type 0} (May : List ℕ → Awaits → Type 0) (Na
 abbrev pub IsSettledWhole : {R F : Type 0} → Folder R F → Type 0
 IsSettledWhole folder = All AwaitsNothing folder.kept.files.items × (folder.kept.names_await ≡ false)
 
--- A directory was opened: it was asked to be made, and it, its files and the one above it were settled whole.
+-- A directory was opened: it was asked to be made, and it, its files and the one above it were settled whole. None of
+-- its files stays open.
 pub record IsOpenedFolder {R F : Type 0} (by_path : PathCall F → R → Type 0) (by_file : FileCall → F → Type 0) (place : List ℕ) (folder : Folder R F) : Type 0 where
   pub path : string_bytes folder.path ≡ place
   pub made : by_path (MadeDirectory place) folder.system
@@ -77,7 +78,8 @@ pub record IsOpenedFolder {R F : Type 0} (by_path : PathCall F → R → Type 0)
   pub directory : by_path (OpenedToSettle place folder.kept.directory) folder.system
   pub names : by_file SettledAll folder.kept.directory
   pub files : (listed : List (List ℕ)) × by_path (Listed place listed) folder.system × All (λ name. IsSettledAt (λ call. by_path call folder.system) by_file (path_in place name)) listed
-  pub settled : IsSettledWhole folder
+  pub closed : folder.kept.files.items ≡ []
+  pub named : folder.kept.names_await ≡ false
 
 -- A file that was there was emptied, or one was made, and the names await a sync; it awaits a sync of everything.
 abbrev pub HasMade : {R F : Type 0} → (PathCall F → R → Type 0) → (FileCall → F → Type 0) → List ℕ → Folder R F → Folder R F → Type 0

@@ -1,4 +1,4 @@
-use Rattle.std.proofs.Common.{ℕ, List, subst, sym, ◌∙◌, arith}
+use Rattle.std.proofs.Common.{ℕ, List, subst, sym, ◌∙◌}
 use Rattle.std.specs.List.{All}
 use Rattle.weed_base.specs.System.{PathCall, MadeDirectory, OpenedToSettle, Listed, SettledAll, path_in, directory_above}
 use Rattle.weed_base.specs.Folder.{IsSettledAt}
@@ -25,5 +25,6 @@ returns g c =
         subst (λ (path : List ℕ). All (λ name. settled (path_in path name)) names) is
             (subst (λ (items : List (List ℕ)). All (λ name. settled (path_in c.in_ok-path.path.now name)) items) c.as_slice.ensures.value c.in_ok-settle_each.ensures),
       );
-      settled = (rw c.new.ensures.files (λ k d below. absurd (omega (arith, below))), c.new.ensures.names);
+      closed = c.new.ensures.files;
+      named = c.new.ensures.names;
     }
