@@ -1,5 +1,5 @@
 -- The text of an index: entries of 16 bytes, each of which changes the map.
-use Rattle.std.specs.Prelude.{◌≡◌, ◌≢◌, ℕ, ◌-◌, ◌/◌, ◌%◌, ◌^◌, ◌==◌, if◌then◌else◌, List, ◌++◌, length, take, drop}
+use Rattle.std.specs.Prelude.{◌≡◌, ◌≢◌, ℕ, ◌-◌, ◌/◌, ◌%◌, ◌^◌, ◌==◌, Bool, if◌then◌else◌, List, ◌++◌, length, take, drop}
 use Rattle.std.specs.Int.{w32, w64, to_be_bytes, from_be_bytes}
 use Rattle.std.specs.List.{fold}
 use Rattle.std.specs.Simd.{first_chunks}
@@ -21,10 +21,22 @@ entry_of bytes = record {
   size = from_be_bytes w32 (drop 12 bytes);
 }
 
--- What an entry makes of a map: the greatest size removes the key, and any other puts the spot.
+-- The size that removes a key: the greatest one of 32 bits.
+abbrev pub removal_size : ℕ
+removal_size = 2 ^ 32 - 1
+
+-- The entry that removes a key, on behalf of the item at that offset.
+abbrev pub removal : ℕ → ℕ → Entry
+removal key offset = record { key = key; offset = offset; size = removal_size }
+
+-- Whether the entry removes its key.
+abbrev pub is_removal : Entry → Bool
+is_removal entry = entry.size == removal_size
+
+-- What an entry makes of a map: one that removes takes the key out, and any other puts the spot.
 abbrev pub entered : Spots → Entry → Spots
 entered spots entry =
-    if entry.size == 2 ^ 32 - 1 then remove spots entry.key
+    if is_removal entry then remove spots entry.key
     else insert spots entry.key (record { offset = entry.offset; size = entry.size })
 
 -- The map that the entries of a text leave, one after another.

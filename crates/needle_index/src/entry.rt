@@ -1,5 +1,8 @@
 ghost use Rattle.std.specs.Prelude.{◌≡◌};
-ghost use Rattle.needle_index.specs.Text.{entry_of, entry_text};
+ghost use Rattle.needle_index.specs.Text.{entry_of, entry_text, is_removal, removal};
+
+/// The size of an entry that removes its key.
+const REMOVED: u32 = u32::MAX;
 
 /// An entry of an index file, of 16 bytes.
 #[derive(Clone, Copy, Debug, PartialEq, Eq)]
@@ -7,7 +10,7 @@ pub struct Entry {
     pub key: u64,
     /// In units of 8 bytes; in an entry that removes, where the item that says so lies.
     pub offset: u32,
-    /// In bytes, or `Entry::REMOVED`.
+    /// In bytes; the greatest one in an entry that removes.
     pub size: u32,
 }
 
@@ -15,11 +18,26 @@ impl Entry {
     /// The length of an entry in bytes.
     pub const LENGTH: usize = 16;
 
-    /// The size of an entry that removes its key.
-    pub const REMOVED: u32 = u32::MAX;
+    /// The entry that removes a key; `offset` is where the item that says so lies, in units of 8 bytes.
+    pub fn removal(key: u64, offset: u32) -> Entry
+        ensures { result ≡ removal key offset }
+    {
+        Entry {
+            key,
+            offset,
+            size: REMOVED,
+        }
+    }
+
+    /// Whether the entry removes its key.
+    pub fn is_removal(&self) -> bool
+        ensures { result ≡ is_removal self.now }
+    {
+        self.size == REMOVED
+    }
 
     /// The entry of these bytes: key, offset and size, each with the high byte first. Takes no memory.
-    pub fn read(bytes: &[u8; 16]) -> Entry
+    pub fn read(bytes: &[u8; Entry::LENGTH]) -> Entry
         ensures { result ≡ entry_of bytes.now }
     {
         let [
@@ -48,7 +66,7 @@ impl Entry {
     }
 
     /// The bytes of the entry. Takes no memory.
-    pub fn write(&self) -> [u8; 16]
+    pub fn write(&self) -> [u8; Entry::LENGTH]
         ensures text { result ≡ entry_text self.now }
         ensures read_back { entry_of result ≡ self.now }
     {

@@ -55,7 +55,7 @@ impl IndexMap {
         ensures cause { IfErr result (IsCauseIn text.now) }
         ensures ragged { length text.now % 16 ≢ 0 → result ≡ Err (IndexFault.Ragged (length text.now)) }
     {
-        let (entries, rest) = text.as_chunks::<16>();
+        let (entries, rest) = text.as_chunks::<{ Entry::LENGTH }>();
         if !rest.is_empty() {
             return Err(IndexFault::Ragged {
                 length: text.len() as u64,
@@ -72,7 +72,7 @@ impl IndexMap {
     fn enter(&mut self, entry: &Entry) -> Result<(), AllocError>
         ensures { OnOk result (self.new.spots ≡ entered self.old.spots entry.now) }
     {
-        if entry.size == Entry::REMOVED {
+        if entry.is_removal() {
             let _ = self.remove(entry.key);
             return Ok(());
         }

@@ -22,6 +22,8 @@ fn an_entry_has_16_bytes(rt: HostRuntime) {
     let bytes = [0, 0, 0, 0, 0, 0, 0, 1, 0, 0, 0, 1, 0, 0, 0, 14];
     assert_eq!(rt; entry.write(), bytes);
     assert_eq!(rt; Entry::read(&bytes), entry);
+    assert!(rt; !entry.is_removal());
+    assert!(rt; Entry::removal(2, 9).is_removal());
 }
 
 #[test]
