@@ -1,6 +1,6 @@
 ghost use Rattle.std.specs.Prelude.{◌≡◌, ◌≤◌, ◌+◌, [], ℕ, Option, IfOk, IfSome, IsNone, IsErrOf};
 ghost use Rattle.std.specs.FinMap.{get};
-ghost use Rattle.weed_base.specs.Told.{CountsOne};
+ghost use Rattle.weed_base.specs.Told.{IsCauseOf};
 ghost use Rattle.name_core.specs.Entry.{IsValid};
 ghost use Rattle.name_core.specs.Namespace.{Namespace};
 ghost use Rattle.name_core.specs.declared.names.KeeperFault.TheVariants.{Memory};
@@ -53,5 +53,5 @@ pub trait Names {
         ensures valid { IfOk result (λ found. IfSome found IsValid) }
         ensures map { map self.new ≡ map self.old }
         ensures looks { looks self.new ≤ looks self.old + 1 }
-        ensures one { CountsOne (faults self.old) (faults self.new) (IsErrOf result KeeperFault.Failed) };
+        ensures cause { IsCauseOf (faults self.old) (faults self.new) (IsErrOf result KeeperFault.Failed) };
 }

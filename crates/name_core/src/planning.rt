@@ -1,5 +1,5 @@
 ghost use Rattle.std.specs.Prelude.{◌≡◌, ◌≤◌, ◌<◌, ◌+◌, length, Ok, IfOk, IfSome, IsErrOf};
-ghost use Rattle.weed_base.specs.Told.{CountsOne};
+ghost use Rattle.weed_base.specs.Told.{IsCauseOf};
 ghost use Rattle.name_core.specs.Log.{end_of_time};
 ghost use Rattle.name_core.specs.Plan.{changes_for, directories_at, looks_for, plan_of, prefixes, recorded, record_time, Changes, MakesDirectories, Plans};
 ghost use Rattle.name_core.specs.RecordReading.{record_of};
@@ -25,7 +25,7 @@ pub fn plan<V: Names>(
     requires { last ≤ end_of_time }
     ensures planned { IfSome (V.map view.old) (λ names. Plans (plan_of names command.now now last) result) }
     ensures map { V.map view.new ≡ V.map view.old }
-    ensures one { CountsOne (V.faults view.old) (V.faults view.new) (IsErrOf result PlanFault.KeeperFault) }
+    ensures cause { IsCauseOf (V.faults view.old) (V.faults view.new) (IsErrOf result PlanFault.KeeperFault) }
 
     // These hold over every view, also one that isn't told. Each prefix of the path is looked up once at most.
     ensures looks { V.looks view.new ≤ V.looks view.old + looks_for command.now }
@@ -58,7 +58,7 @@ fn changes_of<V: Names>(
     ensures changes { IfSome (V.map view.old) (λ names. Changes (changes_for names time command.now) result) }
     ensures map { V.map view.new ≡ V.map view.old }
     ensures looks { V.looks view.new ≤ V.looks view.old + looks_for command.now }
-    ensures one { CountsOne (V.faults view.old) (V.faults view.new) (IsErrOf result PlanFault.KeeperFault) }
+    ensures cause { IsCauseOf (V.faults view.old) (V.faults view.new) (IsErrOf result PlanFault.KeeperFault) }
     ensures directories { IfOk result (MakesDirectories time) }
     ensures no_end { IsErrOf result (PlanFault.Refused Refusal.ClockAtEnd) → ⊥ }
 {
@@ -77,7 +77,7 @@ fn new_directories<V: Names>(
     ensures changes { IfSome (V.map view.old) (λ names. Changes (directories_at names time (prefixes path.now)) result) }
     ensures map { V.map view.new ≡ V.map view.old }
     ensures looks { V.looks view.new ≤ V.looks view.old + length path.now }
-    ensures one { CountsOne (V.faults view.old) (V.faults view.new) (IsErrOf result PlanFault.KeeperFault) }
+    ensures cause { IsCauseOf (V.faults view.old) (V.faults view.new) (IsErrOf result PlanFault.KeeperFault) }
     ensures directories { IfOk result (MakesDirectories time) }
     ensures no_end { IsErrOf result (PlanFault.Refused Refusal.ClockAtEnd) → ⊥ }
 {

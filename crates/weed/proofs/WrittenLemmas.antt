@@ -1,11 +1,11 @@
 -- One write after another.
-use Rattle.std.proofs.Common.{◌≡◌, ℕ, ◌+◌, min, List, ◌++◌, length, take, drop, Option, Some, None, Result, Ok, Err, sym, ap, subst, ◌∙◌, arith, append_assoc}
+use Rattle.std.proofs.Common.{◌≡◌, ℕ, ◌+◌, ◌≤◌, ◌<◌, min, inl, inr, refl, List, ◌++◌, length, take, drop, Option, Some, None, Result, Ok, Err, sym, ap, subst, ◌∙◌, arith, append_assoc}
 use Rattle.std.proofs.lemmas.List.{take_min, take-append-le}
 use Rattle.std.proofs.Math.Seq.{take-append-add}
 use Rattle.std.specs.Option.{option_map}
 use Rattle.weed.proofs.ListLemmas.{take-add}
 use Rattle.std.specs.Prelude.{OnErr}
-use Rattle.weed_base.specs.Told.{Appends, Rose, HasCause}
+use Rattle.weed_base.specs.Told.{raised, Appends, Rose, HasCause, IsWriteFault}
 use Rattle.weed.specs.Written.{AppendsFront}
 
 -- the bytes of one write behind those of another
@@ -28,7 +28,19 @@ front_behind old mid new xs ys zs first (count, second) =
     take-append-add xs (ys ++ zs) n ∙ ap (λ rest. xs ++ rest) (take-append-le n ys zs (omega arith) ∙ take_min count ys) in
     (length xs + n, subst (Appends old new) (sym cut) (appends_both old mid new xs (take count ys) first second))
 
+-- a count that went up by one rose
+pub rises : (before now : ℕ) → before ≤ now → now ≡ raised before → Rose before now
+rises before now later is = omega (arith, later, is)
+
 -- the cause of what failed
 pub failed_in : {T E : Type 0} (before now : ℕ) (result : Result T E) → HasCause before now result → OnErr result (Rose before now)
 failed_in before now (Ok value) cause = tt
-failed_in before now (Err fault) cause = cause
+failed_in before now (Err fault) cause = rises before now cause.later (cause.failed refl)
+
+ok_is : {E : Type 0} (result : Result ℕ E) (count other : ℕ) → result ≡ Ok count → result ≡ Ok other → count ≡ other
+ok_is result count other first second = cc
+
+-- a write that took some bytes didn't fail
+pub took_some : {E : Type 0} (count : ℕ) (piece : List ℕ) → 0 < count → ¬ IsWriteFault {E = E} (Ok count) piece
+took_some count piece some (inl failed) = absurd (cc)
+took_some {E = E} count piece some (inr none) = omega (arith, some, ok_is {E = E} (Ok count) count 0 refl none.0)

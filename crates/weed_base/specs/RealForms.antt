@@ -1,6 +1,6 @@
 -- The real directory as a disk: what a call of it tells, and what it does to the directory that is attached.
 use Rattle.std.specs.Prelude.{◌≡◌, ◌-◌, ◌^◌, true, None, Result, IsErr, IsSomeAnd}
-use Rattle.weed_base.specs.Told.{CountsOne}
+use Rattle.weed_base.specs.Told.{HasCause}
 use Rattle.weed_base.specs.Files.{BothTold}
 use Rattle.weed_base.specs.Images.{Elapses}
 use Rattle.weed_base.specs.declared.real.folder.Folder.{Folder}
@@ -23,7 +23,7 @@ pub record IsCalled {R F T E : Type 0} (old new : DirDisk R F) (result : Result 
   pub time : Ticks old new
   pub spent : old.counts.made ≡ 2 ^ 64 - 1 → IsErr result
   pub breaks : StaysBroken old new result
-  pub one : CountsOne old.counts.faults new.counts.faults (IsErr result)
+  pub cause : HasCause old.counts.faults new.counts.faults result
   pub attachment : new.attachment ≡ old.attachment
 
 -- A directory is attached before and after, and they are so.

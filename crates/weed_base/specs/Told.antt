@@ -1,7 +1,7 @@
 -- What an object of the outside tells of its contents, and how it counts its faults.
 -- An object that is told gives its contents as `Some`, one that isn't gives `None`. A clause on contents
 -- holds where they are told, and a clause on causes always.
-use Rattle.std.specs.Prelude.{◌≡◌, ℕ, ◌+◌, ◌-◌, ◌^◌, ◌≤◌, ◌<◌, ◌⊎◌, min, max, List, [], ◌++◌, length, take, Ok, MatchResult, IfOk, IsErr, OnErr, Option, Result}
+use Rattle.std.specs.Prelude.{◌≡◌, ℕ, ◌+◌, ◌-◌, ◌^◌, ◌≤◌, ◌<◌, ◌⊎◌, min, max, List, [], ◌++◌, length, take, Ok, MatchResult, IsErr, Option, Result}
 use Rattle.std.specs.Option.{option_map}
 
 -- The count after one more. It stays at the end of its type.
@@ -12,31 +12,23 @@ raised count = min (count + 1) (2 ^ 64 - 1)
 abbrev pub Rose : ℕ → ℕ → Type 0
 Rose before now = max before (raised before) ≤ now
 
--- The count stays as it was where the call is Ok, and goes up where it isn't.
-abbrev pub HasCause : {T E : Type 0} → ℕ → ℕ → Result T E → Type 0
-HasCause before now result = MatchResult result (λ _. now ≡ before) (λ _. Rose before now)
-
--- The same of one error among several: the count goes up with it, and stays as it was without it.
-pub record IsCauseOf (before now : ℕ) (Fault : Type 0) : Type 0 where
-  pub later : before ≤ now
-  pub quiet : ¬ Fault → now ≡ before
-  pub failed : Fault → Rose before now
-
--- The same of a write, where taking nothing of a piece that isn't empty counts as a failed call too.
-pub record HasWriteCause {E : Type 0} (before now : ℕ) (result : Result ℕ E) (piece : List ℕ) : Type 0 where
-  pub taken : IfOk result (λ count. min 1 (length piece) ≤ count → now ≡ before)
-  pub idle : result ≡ Ok 0 → 0 < length piece → Rose before now
-  pub failed : OnErr result (Rose before now)
-
 -- The count went up by one where this is so, and stays as it was where it isn't.
-pub record CountsOne (before now : ℕ) (Fault : Type 0) : Type 0 where
+pub record IsCauseOf (before now : ℕ) (Fault : Type 0) : Type 0 where
   pub later : before ≤ now
   pub quiet : ¬ Fault → now ≡ before
   pub failed : Fault → now ≡ raised before
 
+-- The count went up by one where the call failed, and stays as it was where it is Ok.
+abbrev pub HasCause : {T E : Type 0} → ℕ → ℕ → Result T E → Type 0
+HasCause before now result = IsCauseOf before now (IsErr result)
+
 -- A write failed, or took nothing of a piece that isn't empty.
 abbrev pub IsWriteFault : {E : Type 0} → Result ℕ E → List ℕ → Type 0
 IsWriteFault result piece = IsErr result ⊎ ((result ≡ Ok 0) × (0 < length piece))
+
+-- The same of a write, where taking nothing of a piece that isn't empty counts as a failed call too.
+abbrev pub HasWriteCause : {E : Type 0} → ℕ → ℕ → Result ℕ E → List ℕ → Type 0
+HasWriteCause before now result piece = IsCauseOf before now (IsWriteFault result piece)
 
 -- What was left began with these bytes, and has lost them.
 abbrev pub Consumes : Option (List ℕ) → Option (List ℕ) → List ℕ → Type 0

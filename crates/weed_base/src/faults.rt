@@ -1,5 +1,5 @@
-ghost use Rattle.std.specs.Prelude.{◌≡◌, ◌≤◌, MatchResult, IsErr, Ok, Err};
-ghost use Rattle.weed_base.specs.Told.{raised, CountsOne, IsWriteFault};
+ghost use Rattle.std.specs.Prelude.{◌≡◌, ◌≤◌, MatchResult, Ok, Err};
+ghost use Rattle.weed_base.specs.Told.{raised, HasCause, HasWriteCause};
 
 use crate::source::Failed;
 use std::marker::Model;
@@ -43,7 +43,7 @@ impl Faults {
     /// Hands on what a call answered, and counts its error.
     pub(crate) fn note<T, E: Drop>(&mut self, answer: Result<T, E>) -> Result<T, Failed>
         ensures value { MatchResult answer (λ value. result ≡ Ok value) (λ _. result ≡ Err record {}) }
-        ensures one { CountsOne self.old self.new (IsErr result) }
+        ensures cause { HasCause self.old self.new result }
     {
         match answer {
             Ok(value) => Ok(value),
@@ -58,7 +58,7 @@ impl Faults {
         piece: &[u8],
     ) -> Result<usize, Failed>
         ensures value { MatchResult answer (λ count. result ≡ Ok count) (λ _. result ≡ Err record {}) }
-        ensures one { CountsOne self.old self.new (IsWriteFault result piece.now) }
+        ensures cause { HasWriteCause self.old self.new result piece.now }
     {
         let count = self.note(answer)?;
         if count == 0 && !piece.is_empty() {

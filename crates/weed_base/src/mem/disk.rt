@@ -2,7 +2,7 @@ ghost use Rattle.std.specs.Prelude.{◌≡◌, ◌≤◌, ◌<◌, ◌+◌, ◌-
 ghost use Rattle.std.specs.Option.{option_map, option_copied};
 ghost use Rattle.std.specs.FinMap.{get, keys};
 ghost use Rattle.std.proofs.lemmas.Bool.{false≢true};
-ghost use Rattle.weed_base.specs.Told.{CountsOne, HasCause, IsCauseOf};
+ghost use Rattle.weed_base.specs.Told.{HasCause, IsCauseOf};
 ghost use Rattle.weed_base.specs.Attachment.{Attaches};
 ghost use Rattle.weed_base.specs.Calls.{called, fails_next};
 ghost use Rattle.weed_base.specs.Files.{IsWithin, IsThere, written, cut_to, made, removed, renamed, content, MayWrite, Changes, ReadsAt};
@@ -146,7 +146,7 @@ impl MemDisk {
         ensures call { IsDiskCall self.old self.new result }
         ensures makes { Makes change self.old self.new result }
         ensures time { Elapses self.old.calls.made self.new.calls.made (images_since self.old) (images_since self.new) (images self.new) }
-        ensures one { CountsOne self.old.calls.faults self.new.calls.faults (IsErr result) }
+        ensures cause { HasCause self.old.calls.faults self.new.calls.faults result }
         ensures spent { self.old.calls.made ≡ 2 ^ 64 - 1 → IsErr result }
     {
         let tick = self.calls.made();
@@ -164,7 +164,7 @@ impl MemDisk {
         ensures writes { WritesOrTears name.now at piece.now self.old self.new result }
         ensures bound { OnOk result (at + length piece.now < 2 ^ 63) }
         ensures time { Elapses self.old.calls.made self.new.calls.made (images_since self.old) (images_since self.new) (images self.new) }
-        ensures one { CountsOne self.old.calls.faults self.new.calls.faults (IsErr result) }
+        ensures cause { HasCause self.old.calls.faults self.new.calls.faults result }
         ensures spent { self.old.calls.made ≡ 2 ^ 64 - 1 → IsErr result }
     {
         let tick = self.calls.made();
@@ -293,7 +293,7 @@ impl Disk for MemDisk {
         ensures bound { OnOk result (at + length piece.now < 2 ^ 63) }
         ensures images { Follows (Tears name.now at (length piece.now)) (images self.old) (images self.new) }
         ensures time { Elapses self.old.calls.made self.new.calls.made (images_since self.old) (images_since self.new) (images self.new) }
-        ensures one { CountsOne self.old.calls.faults self.new.calls.faults (IsErr result) }
+        ensures cause { HasCause self.old.calls.faults self.new.calls.faults result }
         ensures spent { self.old.calls.made ≡ 2 ^ 64 - 1 → IsErr result }
     {
         self.write(name, at, piece)
@@ -306,7 +306,7 @@ impl Disk for MemDisk {
         ensures files { Changes (cut_to name.now to) (Some (present self.old)) (Some (present self.new)) result }
         ensures images { Follows (Takes (where_there name.now (cut_to name.now to))) (images self.old) (images self.new) }
         ensures time { Elapses self.old.calls.made self.new.calls.made (images_since self.old) (images_since self.new) (images self.new) }
-        ensures one { CountsOne self.old.calls.faults self.new.calls.faults (IsErr result) }
+        ensures cause { HasCause self.old.calls.faults self.new.calls.faults result }
         ensures spent { self.old.calls.made ≡ 2 ^ 64 - 1 → IsErr result }
     {
         let name = name.copy();
@@ -319,7 +319,7 @@ impl Disk for MemDisk {
         ensures files { Changes (made name.now) (Some (present self.old)) (Some (present self.new)) result }
         ensures images { Follows (Takes (made name.now)) (images self.old) (images self.new) }
         ensures time { Elapses self.old.calls.made self.new.calls.made (images_since self.old) (images_since self.new) (images self.new) }
-        ensures one { CountsOne self.old.calls.faults self.new.calls.faults (IsErr result) }
+        ensures cause { HasCause self.old.calls.faults self.new.calls.faults result }
         ensures spent { self.old.calls.made ≡ 2 ^ 64 - 1 → IsErr result }
     {
         let name = name.copy();
@@ -332,7 +332,7 @@ impl Disk for MemDisk {
         ensures files { Changes (removed name.now) (Some (present self.old)) (Some (present self.new)) result }
         ensures images { Follows (Takes (removed name.now)) (images self.old) (images self.new) }
         ensures time { Elapses self.old.calls.made self.new.calls.made (images_since self.old) (images_since self.new) (images self.new) }
-        ensures one { CountsOne self.old.calls.faults self.new.calls.faults (IsErr result) }
+        ensures cause { HasCause self.old.calls.faults self.new.calls.faults result }
         ensures spent { self.old.calls.made ≡ 2 ^ 64 - 1 → IsErr result }
     {
         let name = name.copy();
@@ -346,7 +346,7 @@ impl Disk for MemDisk {
         ensures files { Changes (renamed from.now to.now) (Some (present self.old)) (Some (present self.new)) result }
         ensures images { Follows (Takes (where_there from.now (renamed from.now to.now))) (images self.old) (images self.new) }
         ensures time { Elapses self.old.calls.made self.new.calls.made (images_since self.old) (images_since self.new) (images self.new) }
-        ensures one { CountsOne self.old.calls.faults self.new.calls.faults (IsErr result) }
+        ensures cause { HasCause self.old.calls.faults self.new.calls.faults result }
         ensures spent { self.old.calls.made ≡ 2 ^ 64 - 1 → IsErr result }
     {
         let from = from.copy();
@@ -361,7 +361,7 @@ impl Disk for MemDisk {
         ensures images { NoMore (images self.old) (images self.new) }
         ensures settled { OnOk result (Only (Some (present self.old)) (images self.new)) }
         ensures time { Elapses self.old.calls.made self.new.calls.made (images_since self.old) (images_since self.new) (images self.new) }
-        ensures one { CountsOne self.old.calls.faults self.new.calls.faults (IsErr result) }
+        ensures cause { HasCause self.old.calls.faults self.new.calls.faults result }
         ensures spent { self.old.calls.made ≡ 2 ^ 64 - 1 → IsErr result }
     {
         self.change(Change::Synced)

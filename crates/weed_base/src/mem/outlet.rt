@@ -1,5 +1,5 @@
 ghost use Rattle.std.specs.Prelude.{◌≡◌, [], Some, length, min, IfOk, IsErr, IsTrue};
-ghost use Rattle.weed_base.specs.Told.{CountsOne, IsWriteFault, Writes};
+ghost use Rattle.weed_base.specs.Told.{HasWriteCause, Writes};
 ghost use Rattle.weed_base.specs.Calls.{uncalled, fails_next, IsNextCall};
 ghost use Rattle.weed_base.specs.Sent.{bytes_of, Sends};
 
@@ -101,7 +101,7 @@ impl Outlet for MemOutlet {
         ensures fails { IsTrue (fails_next self.old.sends) → IsErr result }
         ensures sends { IsNextCall self.old.sends self.new.sends }
         ensures most { self.new.most ≡ self.old.most }
-        ensures one { CountsOne self.old.sends.faults self.new.sends.faults (IsWriteFault result piece.now) }
+        ensures cause { HasWriteCause self.old.sends.faults self.new.sends.faults result piece.now }
     {
         self.sends.begin()?;
         let count = piece.len().min(self.most);

@@ -1,5 +1,5 @@
 ghost use Rattle.std.specs.Prelude.{◌≡◌, [], Some, length, min, IsTrue, IsErr, IfOk};
-ghost use Rattle.weed_base.specs.Told.{CountsOne, IsWriteFault, Writes};
+ghost use Rattle.weed_base.specs.Told.{HasWriteCause, Writes};
 ghost use Rattle.weed_base.specs.Calls.{uncalled, fails_next, IsNextCall};
 
 use crate::mem::calls::Calls;
@@ -67,7 +67,7 @@ impl Sink for MemSink {
 
     fn write(&mut self, piece: &[u8]) -> Result<usize, Failed>
         ensures bytes { Writes (Some self.old.written) (Some self.new.written) result piece.now }
-        ensures one { CountsOne self.old.calls.faults self.new.calls.faults (IsWriteFault result piece.now) }
+        ensures cause { HasWriteCause self.old.calls.faults self.new.calls.faults result piece.now }
         ensures count { IfOk result (λ count. count ≡ min (length piece.now) self.old.most) }
         ensures fails { IsTrue (fails_next self.old.calls) → IsErr result }
         ensures calls { IsNextCall self.old.calls self.new.calls }

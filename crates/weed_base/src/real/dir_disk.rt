@@ -2,7 +2,7 @@ ghost use Rattle.std.specs.Prelude.{◌≡◌, ◌≤◌, ◌<◌, ◌+◌, ◌-
 ghost use Rattle.std.proofs.lemmas.Bool.{false≢true};
 ghost use Rattle.std.proofs.lemmas.Option.{none-some};
 ghost use Rattle.weed_base.specs.Attachment.{Attaches, unattached};
-ghost use Rattle.weed_base.specs.Told.{raised, CountsOne};
+ghost use Rattle.weed_base.specs.Told.{raised, HasCause, IsCauseOf};
 ghost use Rattle.weed_base.specs.Files.{ReadsAt};
 ghost use Rattle.weed_base.specs.System.{Wrote, CutTo, Missed};
 ghost use Rattle.weed_base.specs.Awaiting.{Awaiting};
@@ -37,7 +37,7 @@ impl Counts {
     fn begin(&mut self) -> Result<(), Failed>
         ensures made { self.new.made ≡ raised self.old.made }
         ensures later { self.old.made ≤ self.new.made }
-        ensures one { CountsOne self.old.faults self.new.faults (IsErr result) }
+        ensures cause { HasCause self.old.faults self.new.faults result }
         ensures spent { IsErr result ↔ (self.old.made ≡ 2 ^ 64 - 1) }
     {
         if self.made == u64::MAX {
@@ -150,7 +150,7 @@ impl<F: SystemFile + Drop, R: System<File = F> + AllocGlobal + Clone + Drop> Dis
         ensures time { Ticks self.old self.new }
         ensures spent { self.old.counts.made ≡ 2 ^ 64 - 1 → IsErr result }
         ensures breaks { StaysBroken self.old self.new result }
-        ensures one { CountsOne self.old.counts.faults self.new.counts.faults (IsErr result) }
+        ensures cause { HasCause self.old.counts.faults self.new.counts.faults result }
         ensures attached { Attaches place self.old.counts.made self.old.attachment self.new.attachment result }
         ensures settled { OnOk result (IfSome self.old.folder (λ before. (after : Folder R F) × (SettlesFiles F.answered before after × IsSettledWhole after))) }
         ensures opened { OnOk result (IsSomeAnd self.new.folder (IsOpenedFolder R.answered F.answered place)) }
@@ -175,7 +175,7 @@ impl<F: SystemFile + Drop, R: System<File = F> + AllocGlobal + Clone + Drop> Dis
         ensures time { Ticks self.old self.new }
         ensures spent { self.old.counts.made ≡ 2 ^ 64 - 1 → IsErr result }
         ensures breaks { StaysBroken self.old self.new result }
-        ensures one { CountsOne self.old.counts.faults self.new.counts.faults (IsErrOf result NamesFault.Failed) }
+        ensures cause { IsCauseOf self.old.counts.faults self.new.counts.faults (IsErrOf result NamesFault.Failed) }
         ensures attachment { self.new.attachment ≡ self.old.attachment }
         ensures keeps { self.new.folder ≡ self.old.folder }
         ensures names { IfOk result (λ names. IsSomeAnd self.old.folder (IsListing R.answered names)) }

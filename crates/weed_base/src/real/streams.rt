@@ -1,7 +1,7 @@
-ghost use Rattle.std.specs.Prelude.{◌≡◌, None, IsSome, IsErr, ⊤};
+ghost use Rattle.std.specs.Prelude.{◌≡◌, None, IsSome, ⊤};
 ghost use Rattle.std.specs.Io.{ReadsAtMost, WritesAtMost};
 ghost use Rattle.std.specs.Io.KnownBytes.{ReadConsumes, WriteAppends};
-ghost use Rattle.weed_base.specs.Told.{raised, CountsOne, IsWriteFault, Reads, Writes};
+ghost use Rattle.weed_base.specs.Told.{raised, HasCause, HasWriteCause, Reads, Writes};
 
 use crate::faults::Faults;
 use crate::outlet::Outlet;
@@ -112,7 +112,7 @@ impl<R: SteadyRead> Source for ReaderSource<R> {
 
     fn read(&mut self, room: &mut [u8]) -> Result<usize, Failed>
         ensures bytes { Reads (R.remaining self.old.reader) (R.remaining self.new.reader) result room.new }
-        ensures one { CountsOne self.old.faults self.new.faults (IsErr result) }
+        ensures cause { HasCause self.old.faults self.new.faults result }
         ensures counted { self.new.reads ≡ raised self.old.reads }
         ensures once { R.one_read self.old.reader self.new.reader }
     {
@@ -162,7 +162,7 @@ impl<W: SteadyWrite> Sink for WriterSink<W> {
 
     fn write(&mut self, piece: &[u8]) -> Result<usize, Failed>
         ensures bytes { Writes (W.contents self.old.writer) (W.contents self.new.writer) result piece.now }
-        ensures one { CountsOne self.old.faults self.new.faults (IsWriteFault result piece.now) }
+        ensures cause { HasWriteCause self.old.faults self.new.faults result piece.now }
         ensures once { W.one_write self.old.writer self.new.writer }
     {
         let answer = self.writer.write_once(piece);
@@ -180,7 +180,7 @@ impl<W: SteadyWrite> Outlet for WriterSink<W> {
 
     fn send(&mut self, _tick: u64, piece: &[u8]) -> Result<usize, Failed>
         ensures bytes { Writes (W.contents self.old.writer) (W.contents self.new.writer) result piece.now }
-        ensures one { CountsOne self.old.faults self.new.faults (IsWriteFault result piece.now) }
+        ensures cause { HasWriteCause self.old.faults self.new.faults result piece.now }
         ensures once { W.one_write self.old.writer self.new.writer }
     {
         self.write(piece)

@@ -24,7 +24,7 @@ loop-depth-preserved g c =
     λ is e. found_at told _ _ _ _ _ c.loop-depth.invariant.map c.in_ok-prefix.ensures e c.in_ok-find.ensures.found in
     record {
       map = c.find.ensures.map ∙ c.loop-depth.invariant.map;
-      faults = c.in_ok-find.ensures.one.quiet (λ failed. cc) ∙ c.loop-depth.invariant.faults;
+      faults = c.in_ok-find.ensures.cause.quiet (λ failed. cc) ∙ c.loop-depth.invariant.faults;
       looks = omega (arith, c.find.ensures.looks, c.loop-depth.invariant.looks);
       front = elim c.match-branch-3.branch [
         | in-None+in_ok-push-in-None w ↦

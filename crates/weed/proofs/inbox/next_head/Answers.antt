@@ -59,7 +59,7 @@ loop-count-preserved g c =
       needed = needs_more g.S.Source.left g.S.Source.reads (left_of c.args.inbox.now.pending (g.S.Source.left c.args.from.now)) c.args.from.now c.loop-count.from c.fill.new.from pending adds.0 c.in_ok-fill.field-0
           c.loop-count.invariant.needed c.loop-count.invariant.left lacks c.in_ok-fill.ensures.once adds.1 c.if-branch-eq0.false adds.3;
       at_hand = λ whole. absurd (whole (subst (λ (inbox : InboxState). LacksHead inbox.pending) (c.loop-count.invariant.at_hand whole).1 lacks));
-      faults = c.in_ok-fill.ensures.cause ∙ c.loop-count.invariant.faults;
+      faults = c.in_ok-fill.ensures.cause.quiet (λ failed. cc) ∙ c.loop-count.invariant.faults;
     }
 
 pub returns-in_err-fill-clause-needed : goal.returns-in_err-fill-clause-needed

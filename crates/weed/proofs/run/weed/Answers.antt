@@ -3,6 +3,7 @@ use Rattle.weed_base.specs.Told.{Rose}
 use Rattle.weed.specs.Run.{IsEarly}
 use Rattle.weed.specs.Tells.{Ends}
 use Rattle.weed.proofs.RunLemmas.{completes}
+use Rattle.weed.proofs.WrittenLemmas.{rises}
 use Rattle.weed.proofs.run.weed.Goals as goal
 
 pub returns-in-Ok-FilerOnce-clause-complete : goal.returns-in-Ok-FilerOnce-clause-complete
@@ -14,4 +15,4 @@ returns-in-Ok-FilerOnce-clause-complete g c dir first good starts no_disk no_rea
       | inl session ↦ inl session.0
       | inr early ↦ inr early.0
     ] in
-    completes _ (g.H.Disk.files c.args.world.host) _ _ _ _ end first starts.stands.log_is ended.0 ended.1 how ran.good_words ran.damaged ran.disk.failed ran.read.failed ran.write.failed no_disk no_read no_write few
+    completes _ (g.H.Disk.files c.args.world.host) _ _ _ _ end first starts.stands.log_is ended.0 ended.1 how ran.good_words ran.damaged (λ fault. rises _ _ ran.disk.later (ran.disk.failed fault)) (λ fault. rises _ _ ran.read.later (ran.read.failed fault)) (λ fault. rises _ _ ran.write.later (ran.write.failed fault)) no_disk no_read no_write few

@@ -2,7 +2,7 @@ use Rattle.std.proofs.Common.{◌∙◌, take, drop, refl, arith}
 use Rattle.std.proofs.lemmas.List.{take_rest}
 use Rattle.weed_base.specs.Sent.{bytes_sent}
 use Rattle.weed_base.specs.Told.{Appends}
-use Rattle.weed.proofs.WrittenLemmas.{appends_more}
+use Rattle.weed.proofs.WrittenLemmas.{appends_more, took_some}
 use Rattle.weed.proofs.HandedLemmas.{sends_nothing, sends_more, bytes_same, bytes_grow, front_grows}
 use Rattle.weed.proofs.SettlingLemmas.{still_nothing, still_both}
 use Rattle.weed.proofs.write.send_all.Goals as goal
@@ -35,7 +35,7 @@ loop-done-preserved g c =
       pieces = sends_more (disk.tick c.loop-done.host) (disk.tick c.send.new.self) (disk.sent c.args.host.now) (disk.sent c.loop-done.host) (disk.sent c.send.new.self) _ invariant.pieces taken.still.tick taken.pieces.1;
       still = still_both (disk.tick c.args.host.now) (disk.tick c.loop-done.host) (disk.tick c.send.new.self) (disk.image_since c.args.host.now) (disk.image_since c.loop-done.host) (disk.image_since c.send.new.self)
           (disk.images c.args.host.now) (disk.images c.loop-done.host) (disk.images c.send.new.self) invariant.still taken.still;
-      send_faults = taken.cause.taken (omega arith) ∙ invariant.send_faults;
+      send_faults = taken.cause.quiet (took_some c.in-Ok.count _ (omega arith)) ∙ invariant.send_faults;
       attachment = taken.attachment ∙ invariant.attachment;
       files = taken.disk.0 ∙ invariant.files;
       faults = taken.disk.1 ∙ invariant.faults;
