@@ -10,7 +10,8 @@ use weed_base::{Failed, FileName, NamesFault};
 pub enum LogFault {
     #[error("a call of the disk failed")]
     DiskFault,
-    /// The files aren't a log text: the first file and place to blame.
+    /// The files aren't a log text: the first file and place to blame. That they are the first is proved over a disk
+    /// that tells its files; over any other the place is before the gate.
     #[error("damaged at {at}")]
     Damaged { file: FileName, at: u64 },
     #[error("out of memory")]

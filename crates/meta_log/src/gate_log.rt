@@ -121,9 +121,9 @@ impl GateLog {
         ensures behind { IfOk result (λ read. HoldsPlace (D.files disk.new) self.now read.1) }
         ensures damaged { IfErr result (IfDamaged (λ _ _. D.files disk.old ≡ None)) }
 
-        // Over any disk the room is filled or the gate is reached, and damage is that of the log's file.
+        // Over any disk the room is filled or the gate is reached, and damage is one of the log's file, before its gate.
         ensures whole { IfOk result (λ read. (length read.0 ≡ room) ⊎ (gate_of self.now ≤ read.1.at)) }
-        ensures blamed { IfErr result (IfDamaged (λ file _. file ≡ segment_name (stem_of self.now) 1)) }
+        ensures blamed { IfErr result (IfDamaged (λ file at. (file ≡ segment_name (stem_of self.now) 1) × (at < gate_of self.now))) }
 
         ensures files { D.files disk.new ≡ D.files disk.old }
         ensures still { OnlyReads D.tick D.images D.image_since disk.old disk.new }

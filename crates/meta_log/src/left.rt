@@ -1,4 +1,4 @@
-ghost use Rattle.std.specs.Prelude.{◌≡◌, ◌≤◌, ◌<◌, ◌+◌, ◌^◌, length, List, ℕ, IfOk, IfErr, IsErrOf, IfSome, MatchOption, None};
+ghost use Rattle.std.specs.Prelude.{◌≡◌, ◌≤◌, ◌<◌, ◌+◌, ◌^◌, ◌↔◌, length, List, ℕ, IfOk, IfErr, IsErrOf, IfSome, MatchOption, None};
 ghost use Rattle.weed_base.specs.Told.{IsCauseOf};
 ghost use Rattle.weed_base.specs.Files.{content};
 ghost use Rattle.weed_base.specs.Images.{OnlyReads};
@@ -48,7 +48,7 @@ pub fn left_head<D: Disk>(
     ensures of { IfOk result (λ _. IfSome (D.files disk.old) (λ files. IsOf (content files name.now) reading.new)) }
     ensures meets { IfOk result (λ head. IfSome (D.files disk.old) (λ files.
         (left : List (List ℕ)) → IsLeft (content files name.now) gate reading.old.at left → MeetsNext left head)) }
-    ensures closed { IfOk result (λ head. head ≡ Head.Closed → gate ≤ reading.new.at) }
+    ensures closed { IfOk result (λ head. (head ≡ Head.Closed) ↔ (gate ≤ reading.new.at)) }
     ensures there { IfOk result (HasItem reading.new.held) }
     ensures place { IfOk result (λ _. (reading.new.at ≡ reading.old.at) × (reading.new.size ≡ reading.old.size)) }
     ensures undamaged { IfErr result (IfDamaged (λ _ _. ⊥)) }
@@ -80,7 +80,7 @@ fn take_text<D: Disk>(
         (λ text. (reading.new.at ≡ reading.old.at + (5 + length text)) × (reading.new.at < 2 ^ 64))) }
     ensures damaged { IfErr result (IfDamaged (λ _ _. IfSome (D.files disk.old) (λ files.
         (left : List (List ℕ)) → ¬ IsLeft (content files name.now) gate reading.old.at left))) }
-    ensures blamed { IfErr result (IfDamaged (λ file at. (file ≡ name.now) × (at ≡ reading.new.at))) }
+    ensures blamed { IfErr result (IfDamaged (λ file at. (file ≡ name.now) × (at ≡ reading.new.at) × (at < gate))) }
     ensures files { D.files disk.new ≡ D.files disk.old }
     ensures still { OnlyReads D.tick D.images D.image_since disk.old disk.new }
     ensures cause { IsCauseOf (D.faults disk.old) (D.faults disk.new) (IsErrOf result LogFault.DiskFault) }
@@ -114,7 +114,7 @@ pub fn collect<D: Disk>(
     ensures place { IfOk result (λ texts. reading.new.at ≡ reading.old.at + length (items texts.items)) }
     ensures damaged { IfErr result (IfDamaged (λ _ _. IfSome (D.files disk.old) (λ files.
         (left : List (List ℕ)) → ¬ IsLeft (content files name.now) gate reading.old.at left))) }
-    ensures blamed { IfErr result (IfDamaged (λ file at. (file ≡ name.now) × (at ≡ reading.new.at))) }
+    ensures blamed { IfErr result (IfDamaged (λ file at. (file ≡ name.now) × (at ≡ reading.new.at) × (at < gate))) }
     ensures files { D.files disk.new ≡ D.files disk.old }
     ensures still { OnlyReads D.tick D.images D.image_since disk.old disk.new }
     ensures cause { IsCauseOf (D.faults disk.old) (D.faults disk.new) (IsErrOf result LogFault.DiskFault) }

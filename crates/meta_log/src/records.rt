@@ -59,7 +59,7 @@ fn skip_one<D: Disk>(
     ensures stops { IfOk result (λ skipped. skipped ≡ false → EndsOrHoldsLate gate after reading.new.at reading.new.held) }
     ensures goes { IfOk result (λ skipped. (reading.new.size ≡ reading.old.size) × OnTrue skipped ((reading.old.at < reading.new.at) × (reading.new.at ≤ reading.new.size))) }
     ensures damaged { IfErr result (IfDamaged (λ _ _. IfSome (D.files disk.old) (λ files. NoneAhead (content files name.now) gate after reading.old.at))) }
-    ensures blamed { IfErr result (IfDamaged (λ file at. (file ≡ name.now) × (at ≡ reading.new.at))) }
+    ensures blamed { IfErr result (IfDamaged (λ file at. (file ≡ name.now) × (at ≡ reading.new.at) × (at < gate))) }
     ensures files { D.files disk.new ≡ D.files disk.old }
     ensures still { OnlyReads D.tick D.images D.image_since disk.old disk.new }
     ensures cause { IsCauseOf (D.faults disk.old) (D.faults disk.new) (IsErrOf result LogFault.DiskFault) }
@@ -94,7 +94,7 @@ pub fn skip_past<D: Disk>(
     ensures skipped { OnOk result (IfSome (D.files disk.old) (λ files. SkipsTo (content files name.now) gate after reading.old.at reading.new.at)) }
     ensures stops { OnOk result (EndsOrHoldsLate gate after reading.new.at reading.new.held) }
     ensures damaged { IfErr result (IfDamaged (λ _ _. IfSome (D.files disk.old) (λ files. NoneAhead (content files name.now) gate after reading.old.at))) }
-    ensures blamed { IfErr result (IfDamaged (λ file at. (file ≡ name.now) × (at ≡ reading.new.at))) }
+    ensures blamed { IfErr result (IfDamaged (λ file at. (file ≡ name.now) × (at ≡ reading.new.at) × (at < gate))) }
     ensures files { D.files disk.new ≡ D.files disk.old }
     ensures still { OnlyReads D.tick D.images D.image_since disk.old disk.new }
     ensures cause { IsCauseOf (D.faults disk.old) (D.faults disk.new) (IsErrOf result LogFault.DiskFault) }

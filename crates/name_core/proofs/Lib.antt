@@ -11,3 +11,4 @@ pub mod ReadRecords
 pub mod RoundTrip
 pub mod PlanReadBack
 pub mod MadeLemmas
+pub mod LookUps

@@ -1,5 +1,6 @@
-ghost use Rattle.std.specs.Prelude.{◌≡◌, ◌≤◌, ◌+◌, [], ℕ, Option, IfOk, IfSome, IsNone, IsErrOf};
+ghost use Rattle.std.specs.Prelude.{◌≡◌, ◌∷◌, ◌++◌, [], List, ℕ, Option, IfOk, IfSome, IsNone, IsErrOf};
 ghost use Rattle.std.specs.FinMap.{get};
+ghost use Rattle.std.specs.Option.{option_map};
 ghost use Rattle.weed_base.specs.Told.{IsCauseOf};
 ghost use Rattle.name_core.specs.Entry.{IsValid};
 ghost use Rattle.name_core.specs.Namespace.{Namespace};
@@ -43,8 +44,8 @@ pub trait Names {
     /// How many calls failed.
     ghost faults: { Self → ℕ };
 
-    /// How many entries were looked up, where that is counted.
-    ghost looks: { Self → ℕ };
+    /// The paths looked up so far, where told.
+    ghost looked: { Self → Option (List (List (List ℕ))) };
 
     /// The entry at a path; none for the root, which is always a directory and is never in the map.
     fn find(&mut self, alloc: Global, path: &Path) -> Result<Option<Entry>, KeeperFault>
@@ -52,6 +53,6 @@ pub trait Names {
         ensures root { path.now ≡ [] → IfOk result IsNone }
         ensures valid { IfOk result (λ found. IfSome found IsValid) }
         ensures map { map self.new ≡ map self.old }
-        ensures looks { looks self.new ≤ looks self.old + 1 }
+        ensures looked { looked self.new ≡ option_map (λ before. before ++ path.now ∷ []) (looked self.old) }
         ensures cause { IsCauseOf (faults self.old) (faults self.new) (IsErrOf result KeeperFault.Failed) };
 }

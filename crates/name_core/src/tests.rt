@@ -31,7 +31,7 @@ impl Names for ListedNames<'_> {
 
     ghost faults = { λ names. names.faults };
 
-    ghost looks = { λ _. 0 };
+    ghost looked = { λ _. None };
 
     fn find(&mut self, alloc: Global, path: &Path) -> Result<Option<Entry>, KeeperFault> {
         if self.is_failing {

@@ -83,14 +83,14 @@ impl NameTable {
 }
 
 impl Names for NameTable {
-    ghost use Rattle.std.specs.Prelude.{Some};
+    ghost use Rattle.std.specs.Prelude.{None, Some};
     ghost use Rattle.weed.specs.NameTable.{names_of};
 
     ghost map = { λ names. Some (names_of names) };
 
     ghost faults = { λ _. 0 };
 
-    ghost looks = { λ _. 0 };
+    ghost looked = { λ _. None };
 
     fn find(&mut self, alloc: Global, path: &Path) -> Result<Option<Entry>, KeeperFault> {
         match self.entries.get(path) {

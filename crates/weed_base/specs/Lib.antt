@@ -2,6 +2,7 @@ pub mod Told
 pub mod Moments
 pub mod FileName
 pub mod Files
+pub mod DiskCall
 pub mod Images
 pub mod Sent
 pub mod Path

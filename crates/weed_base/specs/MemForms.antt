@@ -1,5 +1,5 @@
 -- The outside in memory: what each form holds.
-use Rattle.std.specs.Prelude.{◌≡◌, ◌<◌, ◌⊎◌, ◌-◌, ◌^◌, ℕ, List, [], ◌∷◌, ◌++◌, length, Result, MatchResult, IsTrue, IsErr, refl}
+use Rattle.std.specs.Prelude.{◌≡◌, ◌<◌, ◌⊎◌, ◌-◌, ◌^◌, ℕ, List, [], ◌∷◌, ◌++◌, length, min, Result, MatchResult, IsTrue, IsErr, IfOk, refl}
 use Rattle.std.specs.Coded.{Coded, code_by, coded×, coded_list, coded_ℕ}
 use Rattle.std.specs.FinMap.{code}
 use Rattle.weed_base.specs.Told.{raised}
@@ -107,6 +107,13 @@ pub record OutletState : Type 0 where
   pub pieces : List Piece
   pub most : ℕ
   pub sends : CallState
+
+-- A send of a memory outlet has its number, fails where the outlet was told so, and takes as much as it may.
+pub record IsOutletSend {E : Type 0} (old new : OutletState) (piece : List ℕ) (result : Result ℕ E) : Type 0 where
+  pub count : IfOk result (λ count. count ≡ min (length piece) old.most)
+  pub fails : IsTrue (fails_next old.sends) → IsErr result
+  pub sends : IsNextCall old.sends new.sends
+  pub most : new.most ≡ old.most
 
 -- The code of a piece: that of its fields.
 abbrev pub piece_code : Coded Piece

@@ -1,5 +1,5 @@
 -- The real directory as a disk: what a call of it tells, and what it does to the directory that is attached.
-use Rattle.std.specs.Prelude.{◌≡◌, ◌-◌, ◌^◌, true, None, Result, IsErr, IsSomeAnd}
+use Rattle.std.specs.Prelude.{◌≡◌, ◌-◌, ◌^◌, ◌⊎◌, true, None, Result, IsErr, IsSomeAnd}
 use Rattle.weed_base.specs.Told.{HasCause}
 use Rattle.weed_base.specs.Files.{BothTold}
 use Rattle.weed_base.specs.Images.{Elapses}
@@ -30,6 +30,14 @@ pub record IsCalled {R F T E : Type 0} (old new : DirDisk R F) (result : Result 
 abbrev pub BothAttached : {R F : Type 0} → (Folder R F → Folder R F → Type 0) → DirDisk R F → DirDisk R F → Type 0
 BothAttached P old new = IsSomeAnd old.folder (λ before. IsSomeAnd new.folder (P before))
 
--- The same, or none is attached before and after.
+-- The same, or none is attached before and after. No sync or attach failed between.
 abbrev pub BothOrNone : {R F : Type 0} → (Folder R F → Folder R F → Type 0) → DirDisk R F → DirDisk R F → Type 0
-BothOrNone P old new = BothTold P old.folder new.folder
+BothOrNone P old new = BothTold P old.folder new.folder × (new.broken ≡ old.broken)
+
+-- What is attached stays as it is.
+abbrev pub StaysAttached : {R F : Type 0} → DirDisk R F → DirDisk R F → Type 0
+StaysAttached old new = (new.folder ≡ old.folder) × (new.broken ≡ old.broken)
+
+-- The directory that was attached was let go, or it stays, for this reason.
+abbrev pub BreaksOffUnless : {R F : Type 0} → Type 0 → DirDisk R F → DirDisk R F → Type 0
+BreaksOffUnless Reason old new = IsBrokenOff new ⊎ (Reason × StaysAttached old new)

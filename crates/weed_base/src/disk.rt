@@ -8,6 +8,8 @@ ghost use Rattle.weed_base.specs.Attachment.{Attachment, Attaches};
 ghost use Rattle.weed_base.specs.Sent.{Piece, Sends, SendsNothing};
 ghost use Rattle.weed_base.specs.declared.disk.NamesFault.TheVariants.{Memory};
 ghost use Rattle.weed_base.specs.Beside.{StaysBeside};
+ghost use Rattle.weed_base.specs.DiskCall.{DiskCall};
+ghost use Rattle.weed_base.specs.DiskCall.DiskCall.{AttachTo, ListNames, SizeOf, ReadInto, WriteAt, CutTo, Make, Remove, Rename, Settle};
 
 use crate::bytes::Word;
 use crate::file_name::FileName;
@@ -80,6 +82,9 @@ pub trait Disk {
     /// What a crash at some moment from that tick on might have left.
     ghost image_since: { Self → ℕ → Files → Type 0 };
 
+    /// That one call led from here to there. Generic code has this from the call alone.
+    ghost one_call: { Self → Self → DiskCall → Type 0 };
+
     /// The number of calls so far. It is no call itself. At 2^64 - 1 each call fails.
     fn tick(&self) -> u64
         ensures { result ≡ tick self.now };
@@ -93,6 +98,7 @@ pub trait Disk {
         ensures time { Elapses (tick self.old) (tick self.new) (image_since self.old) (image_since self.new) (images self.new) }
         ensures cause { HasCause (faults self.old) (faults self.new) result }
         ensures sent { SendsNothing sent send_faults self.old self.new }
+        ensures once { one_call self.old self.new (AttachTo place) }
         ensures spent { tick self.old ≡ 2 ^ 64 - 1 → IsErr result };
 
     /// All names, in byte order.
@@ -103,6 +109,7 @@ pub trait Disk {
         ensures time { Elapses (tick self.old) (tick self.new) (image_since self.old) (image_since self.new) (images self.new) }
         ensures cause { IsCauseOf (faults self.old) (faults self.new) (IsErrOf result NamesFault.Failed) }
         ensures beside { StaysBeside sent send_faults attachment self.old self.new }
+        ensures once { one_call self.old self.new ListNames }
         ensures spent { tick self.old ≡ 2 ^ 64 - 1 → IsErr result };
 
     /// The length of a file in bytes; `None` exactly where it isn't there.
@@ -113,6 +120,7 @@ pub trait Disk {
         ensures time { Elapses (tick self.old) (tick self.new) (image_since self.old) (image_since self.new) (images self.new) }
         ensures cause { HasCause (faults self.old) (faults self.new) result }
         ensures beside { StaysBeside sent send_faults attachment self.old self.new }
+        ensures once { one_call self.old self.new (SizeOf name.now) }
         ensures spent { tick self.old ≡ 2 ^ 64 - 1 → IsErr result };
 
     /// Puts the file's bytes from `at` on into the front of `room`, as many as there are and fit, and
@@ -125,6 +133,7 @@ pub trait Disk {
         ensures time { Elapses (tick self.old) (tick self.new) (image_since self.old) (image_since self.new) (images self.new) }
         ensures cause { HasCause (faults self.old) (faults self.new) result }
         ensures beside { StaysBeside sent send_faults attachment self.old self.new }
+        ensures once { one_call self.old self.new (ReadInto name.now at room.new) }
         ensures spent { tick self.old ≡ 2 ^ 64 - 1 → IsErr result };
 
     /// Writes the piece over what is there, and past the end. A write whose end would pass 2^63 - 1 fails.
@@ -139,6 +148,7 @@ pub trait Disk {
         ensures time { Elapses (tick self.old) (tick self.new) (image_since self.old) (image_since self.new) (images self.new) }
         ensures cause { HasCause (faults self.old) (faults self.new) result }
         ensures beside { StaysBeside sent send_faults attachment self.old self.new }
+        ensures once { one_call self.old self.new (WriteAt name.now at piece.now) }
         ensures spent { tick self.old ≡ 2 ^ 64 - 1 → IsErr result };
 
     /// Cuts a file to a length. After a failure it reads as before or as after.
@@ -149,6 +159,7 @@ pub trait Disk {
         ensures time { Elapses (tick self.old) (tick self.new) (image_since self.old) (image_since self.new) (images self.new) }
         ensures cause { HasCause (faults self.old) (faults self.new) result }
         ensures beside { StaysBeside sent send_faults attachment self.old self.new }
+        ensures once { one_call self.old self.new (CutTo name.now to) }
         ensures spent { tick self.old ≡ 2 ^ 64 - 1 → IsErr result };
 
     /// Makes the file, there and empty. After a failure it reads as before or as after.
@@ -159,6 +170,7 @@ pub trait Disk {
         ensures time { Elapses (tick self.old) (tick self.new) (image_since self.old) (image_since self.new) (images self.new) }
         ensures cause { HasCause (faults self.old) (faults self.new) result }
         ensures beside { StaysBeside sent send_faults attachment self.old self.new }
+        ensures once { one_call self.old self.new (Make name.now) }
         ensures spent { tick self.old ≡ 2 ^ 64 - 1 → IsErr result };
 
     /// Removes the file, where it is there. After a failure it reads as before or as after.
@@ -168,6 +180,7 @@ pub trait Disk {
         ensures time { Elapses (tick self.old) (tick self.new) (image_since self.old) (image_since self.new) (images self.new) }
         ensures cause { HasCause (faults self.old) (faults self.new) result }
         ensures beside { StaysBeside sent send_faults attachment self.old self.new }
+        ensures once { one_call self.old self.new (Remove name.now) }
         ensures spent { tick self.old ≡ 2 ^ 64 - 1 → IsErr result };
 
     /// Renames a file, which takes the place of what had the new name. After a failure both names read as
@@ -180,6 +193,7 @@ pub trait Disk {
         ensures time { Elapses (tick self.old) (tick self.new) (image_since self.old) (image_since self.new) (images self.new) }
         ensures cause { HasCause (faults self.old) (faults self.new) result }
         ensures beside { StaysBeside sent send_faults attachment self.old self.new }
+        ensures once { one_call self.old self.new (Rename from.now to.now) }
         ensures spent { tick self.old ≡ 2 ^ 64 - 1 → IsErr result };
 
     /// Settles all files and names.
@@ -190,6 +204,7 @@ pub trait Disk {
         ensures time { Elapses (tick self.old) (tick self.new) (image_since self.old) (image_since self.new) (images self.new) }
         ensures cause { HasCause (faults self.old) (faults self.new) result }
         ensures beside { StaysBeside sent send_faults attachment self.old self.new }
+        ensures once { one_call self.old self.new Settle }
         ensures spent { tick self.old ≡ 2 ^ 64 - 1 → IsErr result };
 
     /// This moment is one of those since an earlier one.

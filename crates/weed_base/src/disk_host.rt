@@ -76,6 +76,8 @@ impl<D: WholeDisk, K: Outlet> Disk for DiskHost<D, K> {
 
     ghost image_since = { λ host. D.image_since host.disk };
 
+    ghost one_call = { λ old new call. D.one_call old.disk new.disk call × (new.outlet ≡ old.outlet) };
+
     ghost counts_now = { λ host. D.counts_now host.disk };
 
     ghost only_now = { λ host. D.only_now host.disk };
@@ -133,6 +135,7 @@ impl<D: WholeDisk, K: Outlet> Host for DiskHost<D, K> {
     fn send(&mut self, piece: &[u8]) -> Result<usize, Failed>
         ensures pieces { Sends (D.tick self.old.disk) (K.sent self.old.outlet) (K.sent self.new.outlet) result piece.now }
         ensures written { Writes (K.written self.old.outlet) (K.written self.new.outlet) result piece.now }
+        ensures once { K.one_send self.old.outlet self.new.outlet (D.tick self.old.disk) piece.now result }
         ensures cause { HasWriteCause (K.faults self.old.outlet) (K.faults self.new.outlet) result piece.now }
         ensures disk { self.new.disk ≡ self.old.disk }
     {

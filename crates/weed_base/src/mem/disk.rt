@@ -1,4 +1,4 @@
-ghost use Rattle.std.specs.Prelude.{◌≡◌, ◌≤◌, ◌<◌, ◌+◌, ◌-◌, ◌^◌, ◌↔◌, [], Some, IfOk, OnOk, IsErr, IsErrOf, MatchResult, IsTrue, false, length, refl};
+ghost use Rattle.std.specs.Prelude.{◌≡◌, ◌≤◌, ◌<◌, ◌+◌, ◌-◌, ◌^◌, ◌↔◌, [], Some, IfOk, OnOk, IsErr, IsErrOf, MatchResult, IsTrue, false, length, refl, ⊤};
 ghost use Rattle.std.specs.Option.{option_map, option_copied};
 ghost use Rattle.std.specs.FinMap.{get, keys};
 ghost use Rattle.std.proofs.lemmas.Bool.{false≢true};
@@ -200,6 +200,8 @@ impl Disk for MemDisk {
     ghost images = { images };
 
     ghost image_since = { images_since };
+
+    ghost one_call = { λ _ _ _. ⊤ };
 
     ghost counts_now = { counts_now };
 

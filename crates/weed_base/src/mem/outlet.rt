@@ -1,6 +1,7 @@
-ghost use Rattle.std.specs.Prelude.{◌≡◌, [], Some, length, min, IfOk, IsErr, IsTrue};
+ghost use Rattle.std.specs.Prelude.{◌≡◌, [], Some};
 ghost use Rattle.weed_base.specs.Told.{HasWriteCause, Writes};
-ghost use Rattle.weed_base.specs.Calls.{uncalled, fails_next, IsNextCall};
+ghost use Rattle.weed_base.specs.Calls.{uncalled};
+ghost use Rattle.weed_base.specs.MemForms.{IsOutletSend};
 ghost use Rattle.weed_base.specs.Sent.{bytes_of, Sends};
 
 use crate::mem::calls::Calls;
@@ -94,13 +95,12 @@ impl Outlet for MemOutlet {
 
     ghost faults = { λ outlet. outlet.sends.faults };
 
+    ghost one_send = { λ old new _ piece result. IsOutletSend old new piece result };
+
     fn send(&mut self, tick: u64, piece: &[u8]) -> Result<usize, Failed>
         ensures pieces { Sends tick (Some self.old.pieces) (Some self.new.pieces) result piece.now }
         ensures bytes { Writes (Some (bytes_of self.old.pieces)) (Some (bytes_of self.new.pieces)) result piece.now }
-        ensures count { IfOk result (λ count. count ≡ min (length piece.now) self.old.most) }
-        ensures fails { IsTrue (fails_next self.old.sends) → IsErr result }
-        ensures sends { IsNextCall self.old.sends self.new.sends }
-        ensures most { self.new.most ≡ self.old.most }
+        ensures once { IsOutletSend self.old self.new piece.now result }
         ensures cause { HasWriteCause self.old.sends.faults self.new.sends.faults result piece.now }
     {
         self.sends.begin()?;

@@ -70,7 +70,7 @@ impl FileTable {
         Ok(table)
     }
 
-    /// The files, in the order of their names.
+    /// All of the files.
     pub(crate) fn entries(&self) -> Result<Vec<NamedBytes>, AllocError>
         ensures { IfOk result (λ files. files_from files.items ≡ self.now) }
     {

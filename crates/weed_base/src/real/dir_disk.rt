@@ -1,4 +1,4 @@
-ghost use Rattle.std.specs.Prelude.{◌≡◌, ◌≤◌, ◌<◌, ◌+◌, ◌-◌, ◌^◌, ◌⊎◌, ◌↔◌, length, None, true, false, IsErr, IsErrOf, IfOk, IfSome, OnOk, OnErr, IsSomeAnd, MatchOption, refl};
+ghost use Rattle.std.specs.Prelude.{◌≡◌, ◌≤◌, ◌<◌, ◌+◌, ◌-◌, ◌^◌, ◌⊎◌, ◌↔◌, length, None, true, false, IsErr, IsErrOf, IfOk, IfSome, OnOk, OnErr, IsSomeAnd, MatchOption, refl, ⊤};
 ghost use Rattle.std.proofs.lemmas.Bool.{false≢true};
 ghost use Rattle.std.proofs.lemmas.Option.{none-some};
 ghost use Rattle.weed_base.specs.Attachment.{Attaches, unattached};
@@ -8,7 +8,7 @@ ghost use Rattle.weed_base.specs.System.{Wrote, CutTo, Missed};
 ghost use Rattle.weed_base.specs.Awaiting.{Awaiting};
 ghost use Rattle.weed_base.specs.Folder.{OfFile, OfFileOrMissed, IsListing, IsOpenedFolder, IsSameFolder, KeepsFolder, MarksNoMore, HasMade, HasRemoved, HasRenamed, NamesMayHaveChanged, SettlesFiles, IsSettledWhole, path_of};
 ghost use Rattle.weed_base.specs.declared.real.folder.Folder.{Folder};
-ghost use Rattle.weed_base.specs.RealForms.{IsBrokenOff, IsCalled, Ticks, StaysBroken, BothAttached, BothOrNone};
+ghost use Rattle.weed_base.specs.RealForms.{IsBrokenOff, IsCalled, Ticks, StaysBroken, StaysAttached, BreaksOffUnless, BothAttached, BothOrNone};
 ghost use Rattle.weed_base.specs.declared.real.kept.Awaits.TheVariants.{Data, Everything};
 
 use crate::attachment::Attachment;
@@ -134,6 +134,8 @@ impl<F: SystemFile + Drop, R: System<File = F> + AllocGlobal + Clone + Drop> Dis
 
     ghost image_since = { λ _ _ _. ⊥ };
 
+    ghost one_call = { λ _ _ _. ⊤ };
+
     ghost counts_now = { λ disk moment image le now. now };
 
     ghost only_now = { λ disk image now. now };
@@ -154,7 +156,8 @@ impl<F: SystemFile + Drop, R: System<File = F> + AllocGlobal + Clone + Drop> Dis
         ensures attached { Attaches place self.old.counts.made self.old.attachment self.new.attachment result }
         ensures settled { OnOk result (IfSome self.old.folder (λ before. (after : Folder R F) × (SettlesFiles F.answered before after × IsSettledWhole after))) }
         ensures opened { OnOk result (IsSomeAnd self.new.folder (IsOpenedFolder R.answered F.answered place)) }
-        ensures broken { OnErr result ((self.old.counts.made ≡ 2 ^ 64 - 1) ⊎ IsBrokenOff self.new) }
+        ensures whole { OnOk result (self.new.broken ≡ self.old.broken) }
+        ensures broken { OnErr result (BreaksOffUnless (self.old.counts.made ≡ 2 ^ 64 - 1) self.old self.new) }
     {
         let tick = self.counts.made;
         self.counts.begin()?;
@@ -177,7 +180,7 @@ impl<F: SystemFile + Drop, R: System<File = F> + AllocGlobal + Clone + Drop> Dis
         ensures breaks { StaysBroken self.old self.new result }
         ensures cause { IsCauseOf self.old.counts.faults self.new.counts.faults (IsErrOf result NamesFault.Failed) }
         ensures attachment { self.new.attachment ≡ self.old.attachment }
-        ensures keeps { self.new.folder ≡ self.old.folder }
+        ensures keeps { StaysAttached self.old self.new }
         ensures names { IfOk result (λ names. IsSomeAnd self.old.folder (IsListing R.answered names)) }
     {
         if self.counts.begin().is_err() {
@@ -304,7 +307,8 @@ impl<F: SystemFile + Drop, R: System<File = F> + AllocGlobal + Clone + Drop> Dis
     fn sync(&mut self) -> Result<(), Failed>
         ensures called { IsCalled self.old self.new result }
         ensures settled { OnOk result (BothAttached (λ before after. IsSameFolder before after × SettlesFiles F.answered before after × IsSettledWhole after) self.old self.new) }
-        ensures broken { OnErr result ((self.old.counts.made ≡ 2 ^ 64 - 1) ⊎ (self.old.folder ≡ None) ⊎ IsBrokenOff self.new) }
+        ensures whole { OnOk result (self.new.broken ≡ self.old.broken) }
+        ensures broken { OnErr result (BreaksOffUnless ((self.old.counts.made ≡ 2 ^ 64 - 1) ⊎ (self.old.folder ≡ None)) self.old self.new) }
     {
         self.counts.begin()?;
         let Some(folder) = &mut self.folder else {

@@ -1,5 +1,6 @@
-ghost use Rattle.std.specs.Prelude.{◌≡◌, None, IsSome, ⊤};
+ghost use Rattle.std.specs.Prelude.{◌≡◌, List, ℕ, Option, None, IsSome, ⊤};
 ghost use Rattle.std.specs.Io.{ReadsAtMost, WritesAtMost};
+ghost use Rattle.std.specs.Result.{result_ok};
 ghost use Rattle.std.specs.Io.KnownBytes.{ReadConsumes, WriteAppends};
 ghost use Rattle.weed_base.specs.Told.{raised, HasCause, HasWriteCause, Reads, Writes};
 
@@ -11,14 +12,15 @@ use std::io::{self, Read, Stderr, Stdin, Stdout, Write};
 
 /// A reader of a type that tells of each of its values what is left, or of none.
 pub trait SteadyRead: Read {
-    /// One read of it led from here to there. Generic code has this from `read_once` alone.
-    ghost one_read: { Self → Self → Type 0 };
+    /// One read of it led from here to there, with this in the room and this count, or none where it failed. Generic
+    /// code has this from `read_once` alone.
+    ghost one_read: { Self → Self → List ℕ → Option ℕ → Type 0 };
 
     /// Reads as `read` does.
     fn read_once(&mut self, room: &mut [u8]) -> io::Result<usize>
         ensures bound { ReadsAtMost result room.new }
         ensures bytes { ReadConsumes (Self.remaining self.old) (Self.remaining self.new) result room.new }
-        ensures once { one_read self.old self.new };
+        ensures once { one_read self.old self.new room.new (result_ok result) };
 
     /// Where one tells, each does.
     ghost steady: { (one other : Self) → IsSome (Self.remaining one) → IsSome (Self.remaining other) };
@@ -28,7 +30,7 @@ pub trait SteadyRead: Read {
 impl SteadyRead for Stdin {
     ghost steady = { λ _ _ told. told };
 
-    ghost one_read = { λ _ _. ⊤ };
+    ghost one_read = { λ _ _ _ _. ⊤ };
 
     fn read_once(&mut self, room: &mut [u8]) -> io::Result<usize> {
         self.read(room)
@@ -37,14 +39,15 @@ impl SteadyRead for Stdin {
 
 /// A writer of a type that tells of each of its values what was written, or of none.
 pub trait SteadyWrite: Write {
-    /// One write of it led from here to there. Generic code has this from `write_once` alone.
-    ghost one_write: { Self → Self → Type 0 };
+    /// One write of this piece led from here to there, with this count, or none where it failed. Generic code has
+    /// this from `write_once` alone.
+    ghost one_write: { Self → Self → List ℕ → Option ℕ → Type 0 };
 
     /// Writes as `write` does.
     fn write_once(&mut self, piece: &[u8]) -> io::Result<usize>
         ensures bound { WritesAtMost result piece.now }
         ensures bytes { WriteAppends (Self.contents self.old) (Self.contents self.new) result piece.now }
-        ensures once { one_write self.old self.new };
+        ensures once { one_write self.old self.new piece.now (result_ok result) };
 
     /// Where one tells, each does.
     ghost steady: { (one other : Self) → IsSome (Self.contents one) → IsSome (Self.contents other) };
@@ -54,7 +57,7 @@ pub trait SteadyWrite: Write {
 impl SteadyWrite for Stdout {
     ghost steady = { λ _ _ told. told };
 
-    ghost one_write = { λ _ _. ⊤ };
+    ghost one_write = { λ _ _ _ _. ⊤ };
 
     fn write_once(&mut self, piece: &[u8]) -> io::Result<usize> {
         self.write(piece)
@@ -64,7 +67,7 @@ impl SteadyWrite for Stdout {
 impl SteadyWrite for Stderr {
     ghost steady = { λ _ _ told. told };
 
-    ghost one_write = { λ _ _. ⊤ };
+    ghost one_write = { λ _ _ _ _. ⊤ };
 
     fn write_once(&mut self, piece: &[u8]) -> io::Result<usize> {
         self.write(piece)
@@ -114,7 +117,7 @@ impl<R: SteadyRead> Source for ReaderSource<R> {
         ensures bytes { Reads (R.remaining self.old.reader) (R.remaining self.new.reader) result room.new }
         ensures cause { HasCause self.old.faults self.new.faults result }
         ensures counted { self.new.reads ≡ raised self.old.reads }
-        ensures once { R.one_read self.old.reader self.new.reader }
+        ensures once { R.one_read self.old.reader self.new.reader room.new (result_ok result) }
     {
         self.reads = self.reads.saturating_add(1);
         let answer = self.reader.read_once(room);
@@ -163,7 +166,7 @@ impl<W: SteadyWrite> Sink for WriterSink<W> {
     fn write(&mut self, piece: &[u8]) -> Result<usize, Failed>
         ensures bytes { Writes (W.contents self.old.writer) (W.contents self.new.writer) result piece.now }
         ensures cause { HasWriteCause self.old.faults self.new.faults result piece.now }
-        ensures once { W.one_write self.old.writer self.new.writer }
+        ensures once { W.one_write self.old.writer self.new.writer piece.now (result_ok result) }
     {
         let answer = self.writer.write_once(piece);
         self.faults.note_write(answer, piece)
@@ -178,10 +181,12 @@ impl<W: SteadyWrite> Outlet for WriterSink<W> {
 
     ghost faults = { λ sink. sink.faults };
 
+    ghost one_send = { λ old new _ piece result. W.one_write old.writer new.writer piece (result_ok result) };
+
     fn send(&mut self, _tick: u64, piece: &[u8]) -> Result<usize, Failed>
         ensures bytes { Writes (W.contents self.old.writer) (W.contents self.new.writer) result piece.now }
         ensures cause { HasWriteCause self.old.faults self.new.faults result piece.now }
-        ensures once { W.one_write self.old.writer self.new.writer }
+        ensures once { W.one_write self.old.writer self.new.writer piece.now (result_ok result) }
     {
         self.write(piece)
     }

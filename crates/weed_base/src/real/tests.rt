@@ -11,7 +11,7 @@ use std::test::Fail;
 impl SteadyRead for &[u8] {
     ghost steady = { λ _ _ told. told };
 
-    ghost one_read = { λ _ _. ⊤ };
+    ghost one_read = { λ _ _ _ _. ⊤ };
 
     fn read_once(&mut self, room: &mut [u8]) -> io::Result<usize> {
         self.read(room)
@@ -21,7 +21,7 @@ impl SteadyRead for &[u8] {
 impl SteadyRead for Cursor<Vec<u8>> {
     ghost steady = { λ _ _ told. told };
 
-    ghost one_read = { λ _ _. ⊤ };
+    ghost one_read = { λ _ _ _ _. ⊤ };
 
     fn read_once(&mut self, room: &mut [u8]) -> io::Result<usize> {
         self.read(room)
@@ -31,7 +31,7 @@ impl SteadyRead for Cursor<Vec<u8>> {
 impl SteadyWrite for Vec<u8> {
     ghost steady = { λ _ _ told. told };
 
-    ghost one_write = { λ _ _. ⊤ };
+    ghost one_write = { λ _ _ _ _. ⊤ };
 
     fn write_once(&mut self, piece: &[u8]) -> io::Result<usize> {
         self.write(piece)
@@ -41,7 +41,7 @@ impl SteadyWrite for Vec<u8> {
 impl SteadyWrite for &mut [u8] {
     ghost steady = { λ _ _ told. told };
 
-    ghost one_write = { λ _ _. ⊤ };
+    ghost one_write = { λ _ _ _ _. ⊤ };
 
     fn write_once(&mut self, piece: &[u8]) -> io::Result<usize> {
         self.write(piece)

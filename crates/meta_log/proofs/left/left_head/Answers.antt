@@ -1,4 +1,4 @@
-use Rattle.std.proofs.Common.{sym, ◌∙◌}
+use Rattle.std.proofs.Common.{sym, ◌∙◌, arith}
 use Rattle.meta_log.proofs.Lefts.{told_none_left, told_meets, never_closed}
 use Rattle.meta_log.proofs.left.left_head.Goals as goal
 
@@ -11,4 +11,6 @@ returns-clause-meets g c =
     c.item_or_broken.ensures c.in_ok-next_head.ensures.next
 
 pub returns-clause-closed : goal.returns-clause-closed
-returns-clause-closed g c same = absurd (never_closed c.in_ok-next_head.field-0 (sym c.item_or_broken.ensures ∙ same))
+returns-clause-closed g c =
+    (λ same. absurd (never_closed c.in_ok-next_head.field-0 (sym c.item_or_broken.ensures ∙ same)),
+    λ over. absurd (omega (arith, over, c.if-at-gate.false, c.at.ensures.at, c.in_ok-next_head.ensures.place.0)))

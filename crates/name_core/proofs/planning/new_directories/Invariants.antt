@@ -1,4 +1,6 @@
-use Rattle.std.proofs.Common.{◌≡◌, ◌≤◌, ◌+◌}
+use Rattle.std.proofs.Common.{◌≡◌, ◌++◌, take}
+use Rattle.std.specs.Option.{option_map}
+use Rattle.name_core.specs.Plan.{prefixes}
 use Rattle.name_core.proofs.PlanLoop.{PlansFront}
 use Rattle.name_core.proofs.planning.new_directories.Given as goal
 
@@ -6,6 +8,6 @@ abbrev pub invariant-loop-depth : goal.invariant-loop-depth
 invariant-loop-depth g l = record {
   map : g.V.Names.map l.view ≡ g.V.Names.map l.fn.view;
   faults : g.V.Names.faults l.view ≡ g.V.Names.faults l.fn.view;
-  looks : g.V.Names.looks l.view ≤ g.V.Names.looks l.fn.view + l.depth;
+  looked : g.V.Names.looked l.view ≡ option_map (λ before. before ++ take l.depth (prefixes l.path)) (g.V.Names.looked l.fn.view);
   front : PlansFront (g.V.Names.map l.fn.view) l.time l.path l.depth l.changes.items;
 }

@@ -17,7 +17,7 @@ returns-in_err-skip_past-clause-damaged g c =
 pub returns-in_err-skip_past-clause-blamed : goal.returns-in_err-skip_past-clause-blamed
 returns-in_err-skip_past-clause-blamed g c =
     let p = err_from_is_err_and c.from_residual-in_err-skip_past.result c.from_residual-in_err-skip_past.ensures.1 in
-    damaged_on _ _ c.from_residual-in_err-skip_past.result p.0 c.in_err-skip_past.field-0.0 p.1 p.2 (λ file at blamed. blamed.0 ∙ c.first_segment-name.ensures) c.in_err-skip_past.ensures.blamed
+    damaged_on _ _ c.from_residual-in_err-skip_past.result p.0 c.in_err-skip_past.field-0.0 p.1 p.2 (λ file at blamed. (blamed.0 ∙ c.first_segment-name.ensures, blamed.2)) c.in_err-skip_past.ensures.blamed
 
 pub returns-in_err-texts-clause-damaged : goal.returns-in_err-texts-clause-damaged
 returns-in_err-texts-clause-damaged g c =
@@ -37,4 +37,4 @@ returns-clause-past g c =
 pub returns-in_err-texts-clause-blamed : goal.returns-in_err-texts-clause-blamed
 returns-in_err-texts-clause-blamed g c =
     let p = err_from_is_err_and c.from_residual-in_err-texts.result c.from_residual-in_err-texts.ensures.1 in
-    damaged_on _ _ c.from_residual-in_err-texts.result p.0 c.in_err-texts.field-0.0 p.1 p.2 (λ file at blamed. blamed.0 ∙ c.first_segment-name.ensures) c.in_err-texts.ensures.blamed
+    damaged_on _ _ c.from_residual-in_err-texts.result p.0 c.in_err-texts.field-0.0 p.1 p.2 (λ file at blamed. (blamed.0 ∙ c.first_segment-name.ensures, blamed.2)) c.in_err-texts.ensures.blamed

@@ -1,7 +1,8 @@
-use Rattle.std.proofs.Common.{◌≡◌, subst}
+use Rattle.std.proofs.Common.{◌≡◌, ◌<◌, subst}
 use Rattle.std.specs.Prelude.{IfErr}
 use Rattle.std.proofs.lemmas.Result.{IfOk-weaker}
 use Rattle.meta_log.specs.Faults.{IfDamaged}
+use Rattle.meta_log.specs.Held.{gate_of}
 use Rattle.meta_log.specs.LogText.{segment_name}
 use Rattle.meta_log.specs.declared.stem.Stem.{Stem}
 use Rattle.meta_log.specs.Places.{IsNext}
@@ -26,4 +27,4 @@ returns-clause-behind g c =
     c.read_from.ensures.next
 
 pub returns-clause-blamed : goal.returns-clause-blamed
-returns-clause-blamed g c = subst (λ (s : Stem). IfErr c.read_from.result (IfDamaged (λ file at. file ≡ segment_name s 1))) c.args.self.now.is_log c.read_from.ensures.blamed
+returns-clause-blamed g c = subst (λ (s : Stem). IfErr c.read_from.result (IfDamaged (λ file at. (file ≡ segment_name s 1) × (at < gate_of c.args.self.now.log)))) c.args.self.now.is_log c.read_from.ensures.blamed
