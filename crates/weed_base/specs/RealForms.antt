@@ -1,5 +1,5 @@
 -- The real directory as a disk: what a call of it tells, and what it does to the directory that is attached.
-use Rattle.std.specs.Prelude.{◌≡◌, ◌-◌, ◌^◌, ◌⊎◌, true, None, Result, IsErr, IsSomeAnd}
+use Rattle.std.specs.Prelude.{◌≡◌, ◌-◌, ◌^◌, true, None, Result, IsErr, IsSomeAnd}
 use Rattle.weed_base.specs.Told.{HasCause}
 use Rattle.weed_base.specs.Files.{BothTold}
 use Rattle.weed_base.specs.Images.{Elapses}
@@ -38,6 +38,6 @@ BothOrNone P old new = BothTold P old.folder new.folder × (new.broken ≡ old.b
 abbrev pub StaysAttached : {R F : Type 0} → DirDisk R F → DirDisk R F → Type 0
 StaysAttached old new = (new.folder ≡ old.folder) × (new.broken ≡ old.broken)
 
--- The directory that was attached was let go, or it stays, for this reason.
+-- What is attached stays for this reason, and is let go for any other.
 abbrev pub BreaksOffUnless : {R F : Type 0} → Type 0 → DirDisk R F → DirDisk R F → Type 0
-BreaksOffUnless Reason old new = IsBrokenOff new ⊎ (Reason × StaysAttached old new)
+BreaksOffUnless Reason old new = (Reason → StaysAttached old new) × (¬ Reason → IsBrokenOff new)

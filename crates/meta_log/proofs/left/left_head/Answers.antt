@@ -11,6 +11,7 @@ returns-clause-meets g c =
     c.item_or_broken.ensures c.in_ok-next_head.ensures.next
 
 pub returns-clause-closed : goal.returns-clause-closed
-returns-clause-closed g c =
-    (λ same. absurd (never_closed c.in_ok-next_head.field-0 (sym c.item_or_broken.ensures ∙ same)),
-    λ over. absurd (omega (arith, over, c.if-at-gate.false, c.at.ensures.at, c.in_ok-next_head.ensures.place.0)))
+returns-clause-closed g c = (
+  λ same. absurd (never_closed c.in_ok-next_head.field-0 (sym c.item_or_broken.ensures ∙ same)),
+  λ over. absurd (omega (arith, over, c.if-at-gate.false, c.at.ensures.at, c.in_ok-next_head.ensures.place.0)),
+)

@@ -7,7 +7,7 @@ pub returns-in-Closed-clause-takes : goal.returns-in-Closed-clause-takes
 returns-in-Closed-clause-takes g c = told_closed (g.D.Disk.files c.args.disk.now) c.args.name.now c.args.gate c.args.reading.now.at c.in_ok-left_head.field-0 c.in-Closed.is c.in_ok-left_head.ensures.meets
 
 pub returns-in-Closed-clause-ended : goal.returns-in-Closed-clause-ended
-returns-in-Closed-clause-ended g c = λ none. c.in_ok-left_head.ensures.closed c.in-Closed.is
+returns-in-Closed-clause-ended g c = λ none. c.in_ok-left_head.ensures.closed.0 c.in-Closed.is
 
 pub returns-in-Broken-clause-damaged : goal.returns-in-Broken-clause-damaged
 returns-in-Broken-clause-damaged g c = rw c.damaged_here.ensures (told_broken (g.D.Disk.files c.args.disk.now) c.args.name.now c.args.gate c.args.reading.now.at c.in_ok-left_head.field-0 c.in-Broken.is c.in_ok-left_head.ensures.meets)
