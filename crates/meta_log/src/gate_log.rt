@@ -5,6 +5,7 @@ ghost use Rattle.weed_base.specs.Images.{LeavesOnly, OnlyReads};
 ghost use Rattle.weed_base.specs.Beside.{StaysBeside};
 ghost use Rattle.meta_log.specs.Making.{LeavesOthers};
 ghost use Rattle.meta_log.specs.LogText.{segment_name, ChangesOnly, Suits, MayKeep, IsDamage, IsLogText};
+ghost use Rattle.meta_log.specs.Segment.{items};
 
 use crate::fault::LogFault;
 use crate::gate_text::GateText;
@@ -121,8 +122,10 @@ impl GateLog {
         ensures behind { IfOk result (λ read. HoldsPlace (D.files disk.new) self.now read.1) }
         ensures damaged { IfErr result (IfDamaged (λ _ _. D.files disk.old ≡ None)) }
 
-        // Over any disk the room is filled or the gate is reached, and damage is one of the log's file, before its gate.
+        // Over any disk the room is filled or the gate is reached, by no more than the texts that are handed on, and
+        // damage is one of the log's file, before its gate.
         ensures whole { IfOk result (λ read. (length read.0 ≡ room) ⊎ (gate_of self.now ≤ read.1.at)) }
+        ensures moves { IfOk result (λ read. read.1.at ≤ place.at + length (items read.0)) }
         ensures blamed { IfErr result (IfDamaged (λ file at. (file ≡ segment_name (stem_of self.now) 1) × (at < gate_of self.now))) }
 
         ensures files { D.files disk.new ≡ D.files disk.old }

@@ -7,6 +7,7 @@ ghost use Rattle.name_core.specs.declared.change.Record.{Record};
 ghost use Rattle.name_core.specs.Log.{end_of_time};
 ghost use Rattle.meta_log.specs.Making.{LeavesOthers};
 ghost use Rattle.meta_log.specs.LogText.{segment_name, ChangesOnly};
+ghost use Rattle.meta_log.specs.Segment.{items};
 ghost use Rattle.meta_log.specs.Records.{ReadsAs};
 ghost use Rattle.meta_log.specs.declared.stem.Stem.TheVariants.{Log};
 
@@ -190,8 +191,10 @@ impl MetaLog {
         ensures behind { IfOk result (λ read. KeepsPlace (D.files disk.new) self.now read.1) }
         ensures damaged { IfErr result (IfDamaged (λ _ _. D.files disk.old ≡ None)) }
 
-        // Over any disk the room is filled or the gate is reached, and damage is one of the log's file, before its gate.
+        // Over any disk the room is filled or the gate is reached, by no more than the texts that are handed on, and
+        // damage is one of the log's file, before its gate.
         ensures whole { IfOk result (λ read. (length read.0 ≡ room) ⊎ (gate_of self.now.log ≤ read.1.at)) }
+        ensures moves { IfOk result (λ read. read.1.at ≤ place.at + length (items read.0)) }
         ensures blamed { IfErr result (IfDamaged (λ file at. (file ≡ segment_name Log 1) × (at < gate_of self.now.log))) }
 
         ensures files { D.files disk.new ≡ D.files disk.old }

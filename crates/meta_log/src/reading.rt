@@ -91,6 +91,7 @@ impl Reading {
     ) -> Result<Reading, Failed>
         ensures of { IfOk result (λ reading. IfSome (D.files disk.old) (λ files.
             IsOf (content files name.now) reading × (reading.at ≡ min at (length (content files name.now))))) }
+        ensures ahead { IfOk result (λ reading. reading.at ≤ at) }
         ensures files { D.files disk.new ≡ D.files disk.old }
         ensures still { OnlyReads D.tick D.images D.image_since disk.old disk.new }
         ensures cause { HasCause (D.faults disk.old) (D.faults disk.new) result }

@@ -28,8 +28,8 @@ pub fn plan<V: Names>(
     ensures cause { IsCauseOf (V.faults view.old) (V.faults view.new) (IsErrOf result PlanFault.KeeperFault) }
 
     // These hold over every view, also one that isn't told. First prefixes of the path are looked up, each
-    // once and in order, and nothing else.
-    ensures looked { LooksUpFirst (paths_of command.now) (V.looked view.old) (V.looked view.new) }
+    // once and in order, up to the first file, and nothing else.
+    ensures looked { LooksUpFirst (V.map view.old) (paths_of command.now) (V.looked view.old) (V.looked view.new) }
     ensures time { IfOk result (λ answer. IfSome answer (λ made. made.time ≡ record_time now last)) }
     ensures later { IfOk result (λ answer. IfSome answer (λ made. last < made.time)) }
     ensures writable { IfOk result (λ answer. IfSome answer CanBeWritten) }
@@ -58,7 +58,7 @@ fn changes_of<V: Names>(
 ) -> Result<RecordChanges, PlanFault>
     ensures changes { IfSome (V.map view.old) (λ names. Changes (changes_for names time command.now) result) }
     ensures map { V.map view.new ≡ V.map view.old }
-    ensures looked { LooksUpFirst (paths_of command.now) (V.looked view.old) (V.looked view.new) }
+    ensures looked { LooksUpFirst (V.map view.old) (paths_of command.now) (V.looked view.old) (V.looked view.new) }
     ensures cause { IsCauseOf (V.faults view.old) (V.faults view.new) (IsErrOf result PlanFault.KeeperFault) }
     ensures directories { IfOk result (MakesDirectories time) }
     ensures no_end { IsErrOf result (PlanFault.Refused Refusal.ClockAtEnd) → ⊥ }
@@ -77,7 +77,7 @@ fn new_directories<V: Names>(
 ) -> Result<RecordChanges, PlanFault>
     ensures changes { IfSome (V.map view.old) (λ names. Changes (directories_at names time (prefixes path.now)) result) }
     ensures map { V.map view.new ≡ V.map view.old }
-    ensures looked { LooksUpFirst (prefixes path.now) (V.looked view.old) (V.looked view.new) }
+    ensures looked { LooksUpFirst (V.map view.old) (prefixes path.now) (V.looked view.old) (V.looked view.new) }
     ensures cause { IsCauseOf (V.faults view.old) (V.faults view.new) (IsErrOf result PlanFault.KeeperFault) }
     ensures directories { IfOk result (MakesDirectories time) }
     ensures no_end { IsErrOf result (PlanFault.Refused Refusal.ClockAtEnd) → ⊥ }

@@ -1,5 +1,6 @@
-use Rattle.std.proofs.Common.{◌∙◌, arith}
+use Rattle.std.proofs.Common.{◌≤◌, ◌+◌, length, ◌∙◌, arith, sym, subst}
 use Rattle.std.proofs.lemmas.Result.{err_from_is_err_and}
+use Rattle.meta_log.specs.Segment.{items}
 use Rattle.meta_log.proofs.Faulted.{damaged_on}
 use Rattle.meta_log.proofs.Fetched.{told_next, told_undamaged, told_behind, whole_by_room}
 use Rattle.meta_log.proofs.gate_log.GateLog.read_from.Goals as goal
@@ -32,3 +33,8 @@ pub returns-in_err-texts-clause-blamed : goal.returns-in_err-texts-clause-blamed
 returns-in_err-texts-clause-blamed g c =
     let p = err_from_is_err_and c.from_residual-in_err-texts.result c.from_residual-in_err-texts.ensures.1 in
     damaged_on _ _ c.from_residual-in_err-texts.result p.0 c.in_err-texts.field-0.0 p.1 p.2 (λ file at blamed. (blamed.0 ∙ c.first_segment-name.ensures, blamed.2)) c.in_err-texts.ensures.blamed
+
+pub returns-clause-moves : goal.returns-clause-moves
+returns-clause-moves g c =
+    subst (λ texts. c.at.result ≤ c.args.place.at + length (items texts)) (sym c.of.ensures)
+    (omega (arith, c.at.ensures.at, c.in_ok-texts.ensures.place, c.in_ok-reading.ensures.ahead))
