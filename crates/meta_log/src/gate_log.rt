@@ -130,6 +130,7 @@ impl GateLog {
 
         ensures files { D.files disk.new ≡ D.files disk.old }
         ensures still { OnlyReads D.tick D.images D.image_since disk.old disk.new }
+        ensures looks { D.acted disk.new ≡ D.acted disk.old }
         ensures cause { IsCauseOf (D.faults disk.old) (D.faults disk.new) (IsErrOf result LogFault.DiskFault) }
         ensures beside { StaysBeside D.sent D.send_faults D.attachment disk.old disk.new }
     {

@@ -54,6 +54,7 @@ pub fn left_head<D: Disk>(
     ensures undamaged { IfErr result (IfDamaged (λ _ _. ⊥)) }
     ensures files { D.files disk.new ≡ D.files disk.old }
     ensures still { OnlyReads D.tick D.images D.image_since disk.old disk.new }
+    ensures looks { D.acted disk.new ≡ D.acted disk.old }
     ensures cause { IsCauseOf (D.faults disk.old) (D.faults disk.new) (IsErrOf result LogFault.DiskFault) }
     ensures beside { StaysBeside D.sent D.send_faults D.attachment disk.old disk.new }
 {
@@ -83,6 +84,7 @@ fn take_text<D: Disk>(
     ensures blamed { IfErr result (IfDamaged (λ file at. (file ≡ name.now) × (at ≡ reading.new.at) × (at < gate))) }
     ensures files { D.files disk.new ≡ D.files disk.old }
     ensures still { OnlyReads D.tick D.images D.image_since disk.old disk.new }
+    ensures looks { D.acted disk.new ≡ D.acted disk.old }
     ensures cause { IsCauseOf (D.faults disk.old) (D.faults disk.new) (IsErrOf result LogFault.DiskFault) }
     ensures beside { StaysBeside D.sent D.send_faults D.attachment disk.old disk.new }
 {
@@ -117,6 +119,7 @@ pub fn collect<D: Disk>(
     ensures blamed { IfErr result (IfDamaged (λ file at. (file ≡ name.now) × (at ≡ reading.new.at) × (at < gate))) }
     ensures files { D.files disk.new ≡ D.files disk.old }
     ensures still { OnlyReads D.tick D.images D.image_since disk.old disk.new }
+    ensures looks { D.acted disk.new ≡ D.acted disk.old }
     ensures cause { IsCauseOf (D.faults disk.old) (D.faults disk.new) (IsErrOf result LogFault.DiskFault) }
     ensures beside { StaysBeside D.sent D.send_faults D.attachment disk.old disk.new }
 {

@@ -58,6 +58,7 @@ fn extend_from<D: Disk>(
     ensures undamaged { IfErr result (IfDamaged (λ _ _. ⊥)) }
     ensures files { D.files disk.new ≡ D.files disk.old }
     ensures still { OnlyReads D.tick D.images D.image_since disk.old disk.new }
+    ensures looks { D.acted disk.new ≡ D.acted disk.old }
     ensures cause { IsCauseOf (D.faults disk.old) (D.faults disk.new) (IsErrOf result LogFault.DiskFault) }
     ensures beside { StaysBeside D.sent D.send_faults D.attachment disk.old disk.new }
 {
@@ -94,6 +95,7 @@ impl Reading {
         ensures ahead { IfOk result (λ reading. reading.at ≤ at) }
         ensures files { D.files disk.new ≡ D.files disk.old }
         ensures still { OnlyReads D.tick D.images D.image_since disk.old disk.new }
+        ensures looks { D.acted disk.new ≡ D.acted disk.old }
         ensures cause { HasCause (D.faults disk.old) (D.faults disk.new) result }
         ensures beside { StaysBeside D.sent D.send_faults D.attachment disk.old disk.new }
     {
@@ -141,6 +143,7 @@ impl Reading {
         ensures undamaged { IfErr result (IfDamaged (λ _ _. ⊥)) }
         ensures files { D.files disk.new ≡ D.files disk.old }
         ensures still { OnlyReads D.tick D.images D.image_since disk.old disk.new }
+        ensures looks { D.acted disk.new ≡ D.acted disk.old }
         ensures cause { IsCauseOf (D.faults disk.old) (D.faults disk.new) (IsErrOf result LogFault.DiskFault) }
         ensures beside { StaysBeside D.sent D.send_faults D.attachment disk.old disk.new }
     {

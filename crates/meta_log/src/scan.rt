@@ -46,6 +46,7 @@ pub fn next_head<D: Disk>(
     ensures undamaged { IfErr result (IfDamaged (λ _ _. ⊥)) }
     ensures files { D.files disk.new ≡ D.files disk.old }
     ensures still { OnlyReads D.tick D.images D.image_since disk.old disk.new }
+    ensures looks { D.acted disk.new ≡ D.acted disk.old }
     ensures cause { IsCauseOf (D.faults disk.old) (D.faults disk.new) (IsErrOf result LogFault.DiskFault) }
     ensures beside { StaysBeside D.sent D.send_faults D.attachment disk.old disk.new }
 {
@@ -77,6 +78,7 @@ fn take_step<D: Disk, C: Check>(
     ensures undamaged { IfErr result (IfDamaged (λ _ _. ⊥)) }
     ensures files { D.files disk.new ≡ D.files disk.old }
     ensures still { OnlyReads D.tick D.images D.image_since disk.old disk.new }
+    ensures looks { D.acted disk.new ≡ D.acted disk.old }
     ensures cause { IsCauseOf (D.faults disk.old) (D.faults disk.new) (IsErrOf result LogFault.DiskFault) }
     ensures beside { StaysBeside D.sent D.send_faults D.attachment disk.old disk.new }
 {
@@ -110,6 +112,7 @@ pub fn scan<D: Disk, C: Check>(
         × IfSome (D.files disk.old) (λ files. IsBroken C.allowed (content files (segment_name stem 1)) at))) }
     ensures files { D.files disk.new ≡ D.files disk.old }
     ensures still { OnlyReads D.tick D.images D.image_since disk.old disk.new }
+    ensures looks { D.acted disk.new ≡ D.acted disk.old }
     ensures cause { IsCauseOf (D.faults disk.old) (D.faults disk.new) (IsErrOf result LogFault.DiskFault) }
     ensures beside { StaysBeside D.sent D.send_faults D.attachment disk.old disk.new }
 {

@@ -84,6 +84,7 @@ fn later_counts<D: Disk>(alloc: Global, disk: &mut D, stem: Stem) -> Result<bool
     ensures found { IfOk result (λ some. IfSome (D.files disk.old) (λ files. MatchBool some (SomeFrom stem 2 files) (NoneFrom stem 2 files))) }
     ensures files { D.files disk.new ≡ D.files disk.old }
     ensures still { OnlyReads D.tick D.images D.image_since disk.old disk.new }
+    ensures looks { D.acted disk.new ≡ D.acted disk.old }
     ensures cause { IsCauseOf (D.faults disk.old) (D.faults disk.new) (IsErrOf result NamesFault.Failed) }
     ensures beside { StaysBeside D.sent D.send_faults D.attachment disk.old disk.new }
 {
@@ -96,6 +97,7 @@ fn first_counts<D: Disk>(disk: &mut D, stem: Stem) -> Result<bool, Failed>
     ensures found { IfOk result (λ some. IfSome (D.files disk.old) (λ files. IsTrue some ↔ Counts stem 1 files)) }
     ensures files { D.files disk.new ≡ D.files disk.old }
     ensures still { OnlyReads D.tick D.images D.image_since disk.old disk.new }
+    ensures looks { D.acted disk.new ≡ D.acted disk.old }
     ensures cause { HasCause (D.faults disk.old) (D.faults disk.new) result }
     ensures beside { StaysBeside D.sent D.send_faults D.attachment disk.old disk.new }
 {
@@ -120,6 +122,7 @@ pub fn find_standing<D: Disk>(alloc: Global, disk: &mut D, stem: Stem) -> Result
     ensures undamaged { IfErr result (IfDamaged (λ _ _. ⊥)) }
     ensures files { D.files disk.new ≡ D.files disk.old }
     ensures still { OnlyReads D.tick D.images D.image_since disk.old disk.new }
+    ensures looks { D.acted disk.new ≡ D.acted disk.old }
     ensures cause { IsCauseOf (D.faults disk.old) (D.faults disk.new) (IsErrOf result LogFault.DiskFault) }
     ensures beside { StaysBeside D.sent D.send_faults D.attachment disk.old disk.new }
 {

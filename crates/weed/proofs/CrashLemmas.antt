@@ -291,7 +291,7 @@ done_adds Cut old last (inr closed) = answers_add old last.left closed.0 _ last.
 -- A send that failed in the last turn failed in the run.
 sends_weaker : (Here Cut : Type 0) → (Here → Cut) → (before answer sent : List ℕ) → SendsUnlessCut Here before answer sent → SendsUnlessCut Cut before answer sent
 sends_weaker Here Cut cut before answer sent (inl whole) = inl whole
-sends_weaker Here Cut cut before answer sent (inr front) = inr (cut front.0, front.1, front.2)
+sends_weaker Here Cut cut before answer sent (inr front) = inr (cut front.0, front.1, front.2, front.3)
 
 faulted_weaker : (Here Cut : Type 0) → (Here → Cut) → (old last : State) → EndsAfter Here exit.DiskFault old last → EndsAfter Cut exit.DiskFault old last
 faulted_weaker Here Cut cut old last ends = (ends.0, ends.1, ends.2, ends.3, ends.4, sends_weaker Here Cut cut old.sent disk_answer last.sent ends.5, ends.6, ends.7)

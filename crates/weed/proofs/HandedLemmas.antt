@@ -85,9 +85,9 @@ bytes_grow (Some pieces) new tick bytes more =
 
 -- First bytes of the rest behind first ones
 pub front_grows : (count : ℕ) (old mid new : Option (List Piece)) (tick : ℕ) (bytes : List ℕ) (done : ℕ) → Appends (bytes_sent old) (bytes_sent mid) (take done bytes)
-    → new ≡ option_map (λ (pieces : List Piece). pieces ++ record { tick = tick; bytes = take count (drop done bytes) } ∷ []) mid → AppendsFront (bytes_sent old) (bytes_sent new) bytes
-front_grows count old mid new tick bytes done first more =
-    (done + count, appends_more (bytes_sent old) (bytes_sent mid) (bytes_sent new) bytes done count first (bytes_grow mid new tick (take count (drop done bytes)) more))
+    → new ≡ option_map (λ (pieces : List Piece). pieces ++ record { tick = tick; bytes = take count (drop done bytes) } ∷ []) mid → done + count < length bytes → AppendsFront (bytes_sent old) (bytes_sent new) bytes
+front_grows count old mid new tick bytes done first more less =
+    (done + count, appends_more (bytes_sent old) (bytes_sent mid) (bytes_sent new) bytes done count first (bytes_grow mid new tick (take count (drop done bytes)) more), less)
 
 -- No bytes more
 pub bytes_same : (bytes : Option (List ℕ)) → Appends bytes bytes []

@@ -80,7 +80,7 @@ sent_leads Cut old rest answer closes log moments Moves Tears left sent sent' fi
 sent_leads Cut old rest answer closes log moments Moves Tears left sent sent' files clock session (Ended exit.WriteFault) answers told sends left_is filer clock_is moves = (
   record { left = rest; sent = old.sent ++ take sends.0 answer; log = log; moments = moments },
   record { left_is = (session.inbox.pending, left_is); sent_is = appended_told sent sent' old.sent (take sends.0 answer) told sends.1; log_is = filer_is_log files session.filer log filer; moments_are = clock_is },
-  (answer, closes, sends.0, answers, refl),
+  (answer, closes, sends.0, answers, refl, sends.2),
   moves,
 )
 sent_leads Cut old rest answer closes log moments Moves Tears left sent sent' files clock session (Ended exit.ReadFault) answers told sends left_is filer clock_is moves = absurd sends
@@ -155,7 +155,7 @@ sent_of : {T E : Type 0} (Cut : Type 0) (old new : Option (List ℕ)) (before an
     → (sent : List ℕ) × (new ≡ Some sent) × SendsUnlessCut Cut before answer sent
 sent_of Cut old new before answer (Ok done) told writes cut = (before ++ answer, appended_told old new before answer told writes, inl refl)
 sent_of Cut old new before answer (Err fault) told writes cut =
-    (before ++ take writes.0 answer, appended_told old new before (take writes.0 answer) told writes.1, inr (cut, writes.0, refl))
+    (before ++ take writes.0 answer, appended_told old new before (take writes.0 answer) told writes.1, inr (cut, writes.0, refl, writes.2))
 
 either_is_log : (told : Option Files) (records more : List Record) → TellsEither told records more
     → (log : List Record) × IsSomeAnd told (λ files. IsRecordLog files log) × ((log ≡ records) ⊎ (log ≡ records ++ more))

@@ -1,5 +1,5 @@
 -- One write after another.
-use Rattle.std.proofs.Common.{◌≡◌, ℕ, ◌+◌, ◌≤◌, ◌<◌, min, inl, inr, refl, List, ◌++◌, length, take, drop, Option, Some, None, Result, Ok, Err, sym, ap, subst, ◌∙◌, arith, append_assoc}
+use Rattle.std.proofs.Common.{◌≡◌, ℕ, ◌+◌, ◌≤◌, ◌<◌, min, inl, inr, refl, List, ◌++◌, length, take, drop, Option, Some, None, Result, Ok, Err, sym, ap, subst, ◌∙◌, arith, append_assoc, length-append}
 use Rattle.std.proofs.lemmas.List.{take_min, take-append-le}
 use Rattle.std.proofs.Math.Seq.{take-append-add}
 use Rattle.std.specs.Option.{option_map}
@@ -22,11 +22,11 @@ appends_more old mid new bytes m n first second =
 
 -- the bytes of one write behind some first bytes of those of another, whatever was to follow
 pub front_behind : (old mid new : Option (List ℕ)) (xs ys zs : List ℕ) → Appends old mid xs → AppendsFront mid new ys → AppendsFront old new (xs ++ (ys ++ zs))
-front_behind old mid new xs ys zs first (count, second) =
+front_behind old mid new xs ys zs first (count, second, less) =
     let n = min count (length ys) in
     let cut : take (length xs + n) (xs ++ (ys ++ zs)) ≡ xs ++ take count ys =
     take-append-add xs (ys ++ zs) n ∙ ap (λ rest. xs ++ rest) (take-append-le n ys zs (omega arith) ∙ take_min count ys) in
-    (length xs + n, subst (Appends old new) (sym cut) (appends_both old mid new xs (take count ys) first second))
+    (length xs + n, subst (Appends old new) (sym cut) (appends_both old mid new xs (take count ys) first second), omega (arith, less, length-append xs (ys ++ zs), length-append ys zs))
 
 -- a count that went up by one rose
 pub rises : (before now : ℕ) → before ≤ now → now ≡ raised before → Rose before now

@@ -9,6 +9,7 @@ use Rattle.weed.specs.Session.{State, Rests, Stands}
 use Rattle.weed.specs.Tells.{Ends}
 use Rattle.weed.specs.Crash.{IsOfRun}
 use Rattle.weed_base.specs.Sent.{Piece}
+use Rattle.weed_base.specs.Told.{raised}
 use Rattle.name_core.specs.declared.change.Record.{Record}
 use Rattle.weed.specs.declared.exit.Exit.{Exit}
 use Rattle.weed.specs.declared.exit.Exit.TheVariants as exit
@@ -47,6 +48,10 @@ pub record EndsUnread {S C : Type 0} (end : Exit) (sent sent' : Option (List Pie
   pub unsent : sent' ≡ sent
   pub unread : source' ≡ source
   pub unasked : clock' ≡ clock
+
+-- The disk wasn't called, or once, by a call that failed and ended the run.
+abbrev pub EndsUncalled : Exit → ℕ → ℕ → Type 0
+EndsUncalled end old new = (new ≡ old) ⊎ ((new ≡ raised old) × (end ≡ exit.DiskFault))
 
 -- A run ends as its session does, or before it. `Cut` says that a send failed, `Unread` that nothing was read, and
 -- `Leaves` what came of the run where its own logs are these: those of its session, or none.

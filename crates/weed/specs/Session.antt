@@ -1,5 +1,5 @@
 -- A session: the requests of an input, each answered over the log that the ones before it left.
-use Rattle.std.specs.Prelude.{◌≡◌, ◌≢◌, ℕ, ◌^◌, ◌⊎◌, ⊤, Bool, true, false, List, [], ◌∷◌, ◌++◌, take, Option, Some, IsSomeAnd, codes}
+use Rattle.std.specs.Prelude.{◌≡◌, ◌≢◌, ℕ, ◌^◌, ◌<◌, ◌⊎◌, ⊤, Bool, true, false, List, [], ◌∷◌, ◌++◌, length, take, Option, Some, IsSomeAnd, codes}
 use Rattle.weed_base.specs.Files.{Files}
 use Rattle.weed_base.specs.Moments.{first_moment, later_moments}
 use Rattle.name_core.specs.declared.change.Record.{Record}
@@ -111,9 +111,9 @@ pub record Rests (old last : State) : Type 0 where
   pub log : last.log ≡ old.log
   pub moments : last.moments ≡ old.moments
 
--- Behind these bytes an answer was sent whole, or a front of it where a send failed.
+-- Behind these bytes an answer was sent whole, or less than the whole where a send failed.
 abbrev pub SendsUnlessCut : (Cut : Type 0) → List ℕ → List ℕ → List ℕ → Type 0
-SendsUnlessCut Cut before answer sent = (sent ≡ before ++ answer) ⊎ (Cut × (count : ℕ) × (sent ≡ before ++ take count answer))
+SendsUnlessCut Cut before answer sent = (sent ≡ before ++ answer) ⊎ (Cut × (count : ℕ) × (sent ≡ before ++ take count answer) × (count < length answer))
 
 -- How a session ends behind a request that was answered whole, or at its start, where `Cut` says that a send failed:
 abbrev pub EndsAfter : (Cut : Type 0) → Exit → State → State → Type 0
@@ -123,10 +123,10 @@ EndsAfter Cut exit.Done old last =
     ⊎ ((answer : List ℕ) × Answers old last.left answer true last.log last.moments × (last.sent ≡ old.sent ++ answer))
 -- Before the next request was read.
 EndsAfter Cut exit.ReadFault old last = Rests old last
--- With a front of the answer that was due.
+-- With a front of the answer that was due, less than the whole.
 EndsAfter Cut exit.WriteFault old last =
     (answer : List ℕ) × (closes : Bool) × (count : ℕ) × Answers old last.left answer closes last.log last.moments
-    × (last.sent ≡ old.sent ++ take count answer)
+    × (last.sent ≡ old.sent ++ take count answer) × (count < length answer)
 -- With the answer 500, and with the records of the request that met the fault in the log or not. It adds some.
 EndsAfter Cut exit.DiskFault old last =
     (target : List ℕ) × (says : Answering) × Requests old.left target last.left

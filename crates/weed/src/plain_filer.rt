@@ -1,4 +1,4 @@
-ghost use Rattle.std.specs.Prelude.{◌≡◌, ◌≤◌, ◌<◌, ◌+◌, false, List, length, Some, IfOk, IfSome, IfErr, IsErrOf};
+ghost use Rattle.std.specs.Prelude.{◌≡◌, ◌≤◌, ◌<◌, ◌+◌, ◌⊎◌, false, List, length, Some, IfOk, IfSome, IfErr, IsErrOf};
 ghost use Rattle.weed_base.specs.Told.{IsCauseOf};
 ghost use Rattle.weed_base.specs.Files.{BothTold, Files};
 ghost use Rattle.weed_base.specs.Beside.{StaysBeside};
@@ -65,6 +65,9 @@ impl PlainFiler {
     ghost use Rattle.weed.specs.Filer.{IsFiled, IsFiledFrom, HoldsFiler, Makes, MakesImages, log_of};
     ghost use Rattle.weed.specs.Settling.{Settling, Tearing};
     ghost use Rattle.weed.specs.Growth.{GrowsByRecords};
+    ghost use Rattle.weed.specs.NameTable.{names_of};
+    ghost use Rattle.weed.specs.Replay.{TakesMany};
+    ghost use Rattle.std.specs.FinMap.{empty};
 
     /// Opens the log of a disk, and folds its records into names. Makes the log's first segment where none
     /// counts. Where the files are no log of records, `Damaged` names the first file and place to blame.
@@ -72,6 +75,7 @@ impl PlainFiler {
         requires { D.MARKS_ONLY ≡ false }
         ensures opened { IfOk result (λ filer. IfSome (D.files disk.old) (λ files. IsFiledFrom files (D.files disk.new) filer)) }
         ensures held { IfOk result (λ filer. (records : List Record) × HoldsFiler (D.files disk.new) filer records) }
+        ensures all { IfOk result (λ filer. TakesMany (front_of (log_of filer)).count empty (names_of filer.names)) }
         ensures damaged { IfErr result (IfDamaged (λ file at.
             IfSome (D.files disk.old) (λ files. IsRecordDamage files file at) × (D.files disk.new ≡ D.files disk.old))) }
 
@@ -99,7 +103,7 @@ impl PlainFiler {
 
     /// Makes the directory and each missing one above it, at a moment in nanoseconds since 1970, by four
     /// calls of the disk at most. After `DiskFault` the log is to be opened again; after the other faults
-    /// nothing is changed.
+    /// nothing is changed, and the disk isn't called.
     pub fn make_dir<D: Disk>(
         &mut self,
         alloc: Global,
@@ -119,6 +123,7 @@ impl PlainFiler {
         ensures grows { BothTold GrowsByRecords (D.files disk.old) (D.files disk.new) }
         ensures beside { StaysBeside D.sent D.send_faults D.attachment disk.old disk.new }
         ensures calls { D.tick disk.new ≤ D.tick disk.old + 4 }
+        ensures uncalled { IfErr result (λ fault. (fault ≡ MakeFault.DiskFault) ⊎ (D.tick disk.new ≡ D.tick disk.old)) }
     {
         let command = Command::MakeDir { path };
         let last = self.log.front().time;
@@ -153,6 +158,7 @@ impl PlainFiler {
         ensures grows { BothTold GrowsByRecords (D.files disk.old) (D.files disk.new) }
         ensures beside { StaysBeside D.sent D.send_faults D.attachment disk.old disk.new }
         ensures calls { D.tick disk.new ≤ D.tick disk.old + 4 }
+        ensures uncalled { IfErr result (λ fault. (fault ≡ MakeFault.DiskFault) ⊎ (D.tick disk.new ≡ D.tick disk.old)) }
     {
         let text = planned.write(alloc)?;
         let ready = GateText::make(alloc, text.as_slice())?;

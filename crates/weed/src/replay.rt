@@ -38,6 +38,7 @@ pub fn replay<D: Disk>(alloc: Global, disk: &mut D, log: &MetaLog) -> Result<Nam
 
     ensures files { D.files disk.new ≡ D.files disk.old }
     ensures still { OnlyReads D.tick D.images D.image_since disk.old disk.new }
+    ensures looks { D.acted disk.new ≡ D.acted disk.old }
     ensures cause { IsCauseOf (D.faults disk.old) (D.faults disk.new) (IsErrOf result LogFault.DiskFault) }
     ensures beside { StaysBeside D.sent D.send_faults D.attachment disk.old disk.new }
 {
@@ -69,6 +70,7 @@ fn take_page<D: Disk>(
 
     ensures files { D.files disk.new ≡ D.files disk.old }
     ensures still { OnlyReads D.tick D.images D.image_since disk.old disk.new }
+    ensures looks { D.acted disk.new ≡ D.acted disk.old }
     ensures cause { IsCauseOf (D.faults disk.old) (D.faults disk.new) (IsErrOf result LogFault.DiskFault) }
     ensures beside { StaysBeside D.sent D.send_faults D.attachment disk.old disk.new }
 {

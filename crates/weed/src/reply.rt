@@ -128,6 +128,7 @@ pub fn reply_to_target<D: Disk, C: Clock>(
     ensures grows { BothTold GrowsByRecords (D.files disk.old) (D.files disk.new) }
     ensures beside { StaysBeside D.sent D.send_faults D.attachment disk.old disk.new }
     ensures calls { D.tick disk.new ≤ D.tick disk.old + 4 }
+    ensures uncalled { IsErrOf result ReplyFault.Memory → D.tick disk.new ≡ D.tick disk.old }
 {
     match Path::read(alloc, path_of_target(target)) {
         Ok(path) => reply_to_path(alloc, filer, disk, clock, path),
@@ -154,6 +155,7 @@ fn reply_to_path<D: Disk, C: Clock>(
     ensures grows { BothTold GrowsByRecords (D.files disk.old) (D.files disk.new) }
     ensures beside { StaysBeside D.sent D.send_faults D.attachment disk.old disk.new }
     ensures calls { D.tick disk.new ≤ D.tick disk.old + 4 }
+    ensures uncalled { IsErrOf result ReplyFault.Memory → D.tick disk.new ≡ D.tick disk.old }
 {
     let made = created_reply(alloc, &path)?;
     let moment = clock.now();

@@ -1,6 +1,6 @@
 ghost use Rattle.std.specs.Prelude.{◌≡◌, ◌≢◌, ◌↔◌, ◌≤◌, ◌⊎◌, List, ℕ, length, Ok, Err, Some, IfOk, IfErr, IfSome, IsErrOf, MatchResult};
 ghost use Rattle.weed_base.specs.Told.{Rose, IsCauseOf};
-ghost use Rattle.weed_base.specs.Attachment.{Attaches, MayAttach, attached_to};
+ghost use Rattle.weed_base.specs.Attachment.{Attaches, attached_to};
 ghost use Rattle.weed_base.specs.Sent.{bytes_sent, SendsNothing};
 ghost use Rattle.weed_base.specs.Files.{Files, BothTold};
 ghost use Rattle.weed_base.specs.Images.{LeavesOnly, OnlyReads};
@@ -16,7 +16,7 @@ ghost use Rattle.weed.specs.Crash.{Survives};
 ghost use Rattle.weed.specs.Filer.{HoldsFiler};
 ghost use Rattle.weed.specs.Session.{State, Stands, Turns, ReadsNoMore, most_turns};
 ghost use Rattle.weed.specs.Tells.{IsSessionEnd};
-ghost use Rattle.weed.specs.Run.{Starts, Begins, EndsRun, EndsUnread, IsEarly, IfDamagedExit, IsDoneOrShort, exit_of_fault};
+ghost use Rattle.weed.specs.Run.{Starts, Begins, EndsRun, EndsUnread, EndsUncalled, IsEarly, IfDamagedExit, IsDoneOrShort, exit_of_fault};
 
 use crate::exit::Exit;
 use crate::inbox::Inbox;
@@ -108,11 +108,12 @@ pub fn weed<S: Source, H: Host, C: Clock>(
     ensures grows { BothTold GrowsByRecords (H.files world.host) (H.files result.1.host) }
 
     // The run's first call of the disk turns the host to the directory of the words, and none turns it elsewhere;
-    // or the run ends before it reads or sends anything.
+    // or that call fails, or none is made, and the run ends before it reads or sends anything.
     ensures attached { (dir : List ℕ) → order_of words.now ≡ Ok dir
         → (H.attachment result.1.host ≡ attached_to dir (H.tick world.host) (H.attachment world.host))
         ⊎ ((H.attachment result.1.host ≡ H.attachment world.host)
-        × EndsUnread result.0 (H.sent world.host) (H.sent result.1.host) world.source result.1.source world.clock result.1.clock) }
+        × EndsUnread result.0 (H.sent world.host) (H.sent result.1.host) world.source result.1.source world.clock result.1.clock
+        × EndsUncalled result.0 (H.tick world.host) (H.tick result.1.host)) }
 {
     let mut world = world;
     match read_words(words) {
@@ -151,7 +152,8 @@ fn filer_once<S: Source, H: Host, C: Clock>(
     ensures grows { BothTold GrowsByRecords (H.files world.old.host) (H.files world.new.host) }
     ensures attached { (H.attachment world.new.host ≡ attached_to dir.now (H.tick world.old.host) (H.attachment world.old.host))
         ⊎ ((H.attachment world.new.host ≡ H.attachment world.old.host)
-        × EndsUnread result (H.sent world.old.host) (H.sent world.new.host) world.old.source world.new.source world.old.clock world.new.clock) }
+        × EndsUnread result (H.sent world.old.host) (H.sent world.new.host) world.old.source world.new.source world.old.clock world.new.clock
+        × EndsUncalled result (H.tick world.old.host) (H.tick world.new.host)) }
 {
     match begin(alloc, dir, &mut world.host) {
         Ok(mut session) => run(alloc, &mut session, world),
@@ -177,7 +179,8 @@ fn begin<H: Host>(alloc: Global, dir: &[u8], host: &mut H) -> Result<Session, Ex
     ensures sent { SendsNothing H.sent H.send_faults host.old host.new }
     ensures attached { MatchResult result
         (λ _. H.attachment host.new ≡ attached_to dir.now (H.tick host.old) (H.attachment host.old))
-        (λ _. MayAttach dir.now (H.tick host.old) (H.attachment host.old) (H.attachment host.new)) }
+        (λ exit. (H.attachment host.new ≡ attached_to dir.now (H.tick host.old) (H.attachment host.old))
+        ⊎ ((H.attachment host.new ≡ H.attachment host.old) × EndsUncalled exit (H.tick host.old) (H.tick host.new))) }
 {
     let inbox = Inbox::new(alloc)?;
     let ready = ReadyAnswers::make(alloc)?;
@@ -199,6 +202,7 @@ fn attach<H: Host>(alloc: Global, dir: &[u8], host: &mut H) -> Result<(), Exit>
     ensures cause { IsCauseOf (H.faults host.old) (H.faults host.new) (IsErrOf result Exit.DiskFault) }
     ensures sent { SendsNothing H.sent H.send_faults host.old host.new }
     ensures attached { Attaches dir.now (H.tick host.old) (H.attachment host.old) (H.attachment host.new) result }
+    ensures calls { IfErr result (λ exit. EndsUncalled exit (H.tick host.old) (H.tick host.new)) }
 {
     let place = Word::new(alloc, dir)?;
     host.attach(place)?;

@@ -14,7 +14,7 @@ use weed_base::{Host, Sink};
 #[error("a write failed")]
 pub struct WriteFault;
 
-/// Writes all the bytes, or first ones of them where a write fails.
+/// Writes all the bytes, or first ones of them, not all, where a write fails.
 pub fn write_all<K: Sink>(to: &mut K, bytes: &[u8]) -> Result<(), WriteFault>
     ensures bytes { WritesAll (K.written to.old) (K.written to.new) result bytes.now }
     ensures cause { HasCause (K.faults to.old) (K.faults to.new) result }
@@ -29,7 +29,7 @@ pub fn write_all<K: Sink>(to: &mut K, bytes: &[u8]) -> Result<(), WriteFault>
     Ok(())
 }
 
-/// Writes the pieces one after another, or first bytes of them where a write fails.
+/// Writes the pieces one after another, or first bytes of them, not all, where a write fails.
 pub fn write_pieces<K: Sink>(to: &mut K, pieces: &[&[u8]]) -> Result<(), WriteFault>
     ensures bytes { WritesAll (K.written to.old) (K.written to.new) result (flat_map (λ piece. piece.now) pieces.now) }
     ensures cause { HasCause (K.faults to.old) (K.faults to.new) result }
@@ -40,7 +40,7 @@ pub fn write_pieces<K: Sink>(to: &mut K, pieces: &[&[u8]]) -> Result<(), WriteFa
     Ok(())
 }
 
-/// Sends all the bytes, or first ones of them where a send fails.
+/// Sends all the bytes, or first ones of them, not all, where a send fails.
 pub fn send_all<H: Host>(host: &mut H, bytes: &[u8]) -> Result<(), WriteFault>
     ensures bytes { WritesAll (bytes_sent (H.sent host.old)) (bytes_sent (H.sent host.new)) result bytes.now }
     ensures cause { HasCause (H.send_faults host.old) (H.send_faults host.new) result }

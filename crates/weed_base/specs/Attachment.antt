@@ -1,5 +1,5 @@
 -- Which directory a disk was turned to.
-use Rattle.std.specs.Prelude.{◌≡◌, ◌⊎◌, ℕ, List, Option, None, Some, Result, MatchResult, refl}
+use Rattle.std.specs.Prelude.{◌≡◌, ℕ, List, Option, None, Some, Result, MatchResult, refl}
 use Rattle.std.specs.Coded.{Coded, code_by, coded×, coded_option, coded_list, coded_ℕ}
 use Rattle.weed_base.specs.Told.{raised}
 
@@ -26,7 +26,3 @@ attached_to place tick before = record { place = Some place; tick = tick; count 
 -- A call at a tick turned the disk to this place where it is Ok, and else to none.
 abbrev pub Attaches : {T E : Type 0} → List ℕ → ℕ → Attachment → Attachment → Result T E → Type 0
 Attaches place tick old new result = MatchResult result (λ _. new ≡ attached_to place tick old) (λ _. new ≡ old)
-
--- The disk was turned to none, or to this place, once, at that tick.
-abbrev pub MayAttach : List ℕ → ℕ → Attachment → Attachment → Type 0
-MayAttach place tick old new = (new ≡ old) ⊎ (new ≡ attached_to place tick old)

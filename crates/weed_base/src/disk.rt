@@ -82,6 +82,9 @@ pub trait Disk {
     /// What a crash at some moment from that tick on might have left.
     ghost image_since: { Self → ℕ → Files → Type 0 };
 
+    /// How many calls did more than look, where that is counted.
+    ghost acted: { Self → ℕ };
+
     /// That one call led from here to there. Generic code has this from the call alone.
     ghost one_call: { Self → Self → DiskCall → Type 0 };
 
@@ -109,6 +112,7 @@ pub trait Disk {
         ensures time { Elapses (tick self.old) (tick self.new) (image_since self.old) (image_since self.new) (images self.new) }
         ensures cause { IsCauseOf (faults self.old) (faults self.new) (IsErrOf result NamesFault.Failed) }
         ensures beside { StaysBeside sent send_faults attachment self.old self.new }
+        ensures looks { acted self.new ≡ acted self.old }
         ensures once { one_call self.old self.new ListNames }
         ensures spent { tick self.old ≡ 2 ^ 64 - 1 → IsErr result };
 
@@ -120,6 +124,7 @@ pub trait Disk {
         ensures time { Elapses (tick self.old) (tick self.new) (image_since self.old) (image_since self.new) (images self.new) }
         ensures cause { HasCause (faults self.old) (faults self.new) result }
         ensures beside { StaysBeside sent send_faults attachment self.old self.new }
+        ensures looks { acted self.new ≡ acted self.old }
         ensures once { one_call self.old self.new (SizeOf name.now) }
         ensures spent { tick self.old ≡ 2 ^ 64 - 1 → IsErr result };
 
@@ -133,6 +138,7 @@ pub trait Disk {
         ensures time { Elapses (tick self.old) (tick self.new) (image_since self.old) (image_since self.new) (images self.new) }
         ensures cause { HasCause (faults self.old) (faults self.new) result }
         ensures beside { StaysBeside sent send_faults attachment self.old self.new }
+        ensures looks { acted self.new ≡ acted self.old }
         ensures once { one_call self.old self.new (ReadInto name.now at room.new) }
         ensures spent { tick self.old ≡ 2 ^ 64 - 1 → IsErr result };
 

@@ -76,6 +76,8 @@ impl<D: WholeDisk, K: Outlet> Disk for DiskHost<D, K> {
 
     ghost image_since = { λ host. D.image_since host.disk };
 
+    ghost acted = { λ host. D.acted host.disk };
+
     ghost one_call = { λ old new call. D.one_call old.disk new.disk call × (new.outlet ≡ old.outlet) };
 
     ghost counts_now = { λ host. D.counts_now host.disk };

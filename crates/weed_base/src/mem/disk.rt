@@ -201,6 +201,8 @@ impl Disk for MemDisk {
 
     ghost image_since = { images_since };
 
+    ghost acted = { λ _. 0 };
+
     ghost one_call = { λ _ _ _. ⊤ };
 
     ghost counts_now = { counts_now };

@@ -134,6 +134,8 @@ impl<F: SystemFile + Drop, R: System<File = F> + AllocGlobal + Clone + Drop> Dis
 
     ghost image_since = { λ _ _ _. ⊥ };
 
+    ghost acted = { λ _. 0 };
+
     ghost one_call = { λ _ _ _. ⊤ };
 
     ghost counts_now = { λ disk moment image le now. now };

@@ -65,4 +65,5 @@ taking-preserved g c =
       ((c.take_text.ensures.beside.0.0 ∙ c.taking.invariant.7.0.0, c.take_text.ensures.beside.0.1 ∙ c.taking.invariant.7.0.1), c.take_text.ensures.beside.1 ∙ c.taking.invariant.7.1),
       reads_both g.D.Disk.tick g.D.Disk.images g.D.Disk.image_since c.args.disk.now c.taking.disk c.take_text.new.disk c.taking.invariant.8 c.take_text.ensures.still,
       ap (λ (n : ℕ). c.taking.bytes + n) (ap length c.as_slice.ensures) ∙ omega (arith, c.taking.invariant.9, sum_by_push length texts text, ap (λ (l : List (List ℕ)). sum_by length l) pushed),
+      c.take_text.ensures.looks ∙ c.taking.invariant.10,
     )

@@ -23,6 +23,7 @@ invariant-taking g l =
     × StaysBeside g.D.Disk.sent g.D.Disk.send_faults g.D.Disk.attachment l.fn.disk l.disk
     × OnlyReads g.D.Disk.tick g.D.Disk.images g.D.Disk.image_since l.fn.disk l.disk
     × (l.bytes ≡ sum_by length l.texts.items)
+    × (g.D.Disk.acted l.disk ≡ g.D.Disk.acted l.fn.disk)
 
 abbrev pub decreases-taking : goal.decreases-taking
 decreases-taking g l = l.room - length l.texts.items

@@ -17,6 +17,7 @@ invariant-skipping g l =
     × (g.D.Disk.faults l.disk ≡ g.D.Disk.faults l.fn.disk)
     × StaysBeside g.D.Disk.sent g.D.Disk.send_faults g.D.Disk.attachment l.fn.disk l.disk
     × OnlyReads g.D.Disk.tick g.D.Disk.images g.D.Disk.image_since l.fn.disk l.disk
+    × (g.D.Disk.acted l.disk ≡ g.D.Disk.acted l.fn.disk)
 
 abbrev pub decreases-skipping : goal.decreases-skipping
 decreases-skipping g l = l.reading.size - l.reading.at

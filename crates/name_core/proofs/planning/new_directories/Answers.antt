@@ -28,11 +28,11 @@ loop-depth-preserved g c =
       faults = c.in_ok-find.ensures.cause.quiet (λ failed. cc) ∙ c.loop-depth.invariant.faults;
       looked = next_looked (g.V.Names.looked c.args.view.now) _ _ _ _ _ (omega arith) c.in_ok-prefix.ensures c.loop-depth.invariant.looked c.find.ensures.looked;
       no_file =
-        no_file_next told c.args.path.now c.loop-depth.depth (omega arith) c.loop-depth.invariant.no_file
-        (elim c.match-branch-3.branch [
-          | in-None+in_ok-push-in-None w ↦ missing_is_no_file told path (found None w.in-None.is)
-          | in-Some+else-is_file w ↦ directory_is_no_file told path w.in-Some.entry (found (Some w.in-Some.entry) w.in-Some.is) (sym w.if-is_file.ensures)
-        ]);
+          no_file_next told c.args.path.now c.loop-depth.depth (omega arith) c.loop-depth.invariant.no_file
+          (elim c.match-branch-3.branch [
+            | in-None+in_ok-push-in-None w ↦ missing_is_no_file told path (found None w.in-None.is)
+            | in-Some+else-is_file w ↦ directory_is_no_file told path w.in-Some.entry (found (Some w.in-Some.entry) w.in-Some.is) (sym w.if-is_file.ensures)
+          ]);
       front = elim c.match-branch-3.branch [
         | in-None+in_ok-push-in-None w ↦
             front_pushed told _ _ _ _ _ _ _ _ c.loop-depth.invariant.front c.depth-depth-end.ensures.valid (omega arith) (found None w.in-None.is)

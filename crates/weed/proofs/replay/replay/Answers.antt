@@ -14,6 +14,7 @@ loop-rest-init g c = record {
   taken = none_taken (g.D.Disk.files c.args.disk.now) c.args.log.now c.new-names.result c.start.result c.front.result.count c.requires
       c.new-names.ensures c.start.ensures (ap (λ (f : Front). f.count) c.front.ensures.front);
   all = takes_none (names_of c.new-names.result) (front_of c.args.log.now).count c.front.result.count c.new-names.ensures (ap (λ (f : Front). f.count) c.front.ensures.front);
+  looks = refl;
   still = reads_nothing g.D.Disk.tick g.D.Disk.images g.D.Disk.image_since c.args.disk.now;
   faults = refl;
   sent = refl;
@@ -29,6 +30,7 @@ loop-rest-preserved g c = record {
       takes_both (front_of c.args.log.now).count c.loop-rest.rest.count c.in_ok-rest.rest.count empty (names_of c.loop-rest.names) (names_of c.take_page.new.names)
       c.in_ok-rest.ensures.less c.loop-rest.invariant.all c.in_ok-rest.ensures.page;
   still = search rules;
+  looks = search rules;
   faults = search rules;
   sent = search rules;
   send_faults = search rules;

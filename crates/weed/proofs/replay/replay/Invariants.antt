@@ -14,6 +14,7 @@ invariant-loop-rest g l =
       taken : HoldsTaken (disk.files l.fn.disk) l.log l.names l.rest.place l.rest.count;
       all : TakesMany ((front_of l.log).count - l.rest.count) empty (names_of l.names);
       still : OnlyReads disk.tick disk.images disk.image_since l.fn.disk l.disk;
+      looks : disk.acted l.disk ≡ disk.acted l.fn.disk;
       faults : disk.faults l.disk ≡ disk.faults l.fn.disk;
       sent : disk.sent l.disk ≡ disk.sent l.fn.disk;
       send_faults : disk.send_faults l.disk ≡ disk.send_faults l.fn.disk;

@@ -45,7 +45,7 @@ pub returns-in-Ok-eq0-clause-bytes : goal.returns-in-Ok-eq0-clause-bytes
 returns-in-Ok-eq0-clause-bytes g c =
     let disk = g.H.Disk in
     front_grows _ (disk.sent c.args.host.now) (disk.sent c.loop-done.host) (disk.sent c.send.new.self) (disk.tick c.loop-done.host) c.args.bytes.now c.loop-done.done c.loop-done.invariant.bytes
-    (simp take_rest at c.in-Ok-eq0.ensures.pieces.1)
+    (simp take_rest at c.in-Ok-eq0.ensures.pieces.1) (omega arith)
 
 pub returns-in-Ok-eq0-clause-pieces : goal.returns-in-Ok-eq0-clause-pieces
 returns-in-Ok-eq0-clause-pieces g c =
