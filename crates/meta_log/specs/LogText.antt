@@ -1,9 +1,10 @@
 -- The files of a log: its segments, which of them count, and the payloads that they stand for.
-use Rattle.std.specs.Prelude.{◌≡◌, ◌≢◌, ℕ, ◌+◌, ◌/◌, ◌%◌, ◌≤◌, ◌⊎◌, ⊤, Bool, IsTrue, List, [], ◌∷◌, ◌++◌, length, take, drop, All, codes}
+use Rattle.std.specs.Prelude.{◌≡◌, ◌≢◌, ℕ, ◌+◌, ◌/◌, ◌%◌, ◌≤◌, ◌⊎◌, ⊤, Bool, IsTrue, List, [], ◌∷◌, ◌++◌, length, take, drop, All, Option, codes}
 use Rattle.std.specs.Int.{w64, from_be_bytes}
 use Rattle.std.specs.FinMap.{get}
-use Rattle.weed_base.specs.Files.{Files, content, IsThere}
-use Rattle.meta_log.specs.Segment.{IsSegment, IsBroken}
+use Rattle.std.specs.Option.{option_map}
+use Rattle.weed_base.specs.Files.{Files, content, written, IsThere}
+use Rattle.meta_log.specs.Segment.{IsSegment, IsBroken, framed}
 use Rattle.meta_log.specs.declared.stem.Stem.{Stem}
 use Rattle.meta_log.specs.declared.stem.Stem.TheVariants.{Log, Marks}
 
@@ -93,3 +94,9 @@ MayKeep marks_only stem = IsTrue marks_only → stem ≡ Marks
 -- Every file of another name is as it was.
 abbrev pub ChangesOnly : List ℕ → Files → Files → Type 0
 ChangesOnly name old new = (other : List ℕ) → other ≢ name → get new other ≡ get old other
+
+-- A text was appended behind a gate at that place of the file: its length, it, and a closed gate; and then its own
+-- gate was opened. Not a byte more was written.
+abbrev pub AppendsAt : List ℕ → ℕ → List ℕ → Option Files → Option Files → Type 0
+AppendsAt name gate text old new =
+    new ≡ option_map (written name gate (1 ∷ [])) (option_map (written name (gate + 1) (framed text ++ 0 ∷ [])) old)

@@ -32,7 +32,7 @@ SkipsTo bytes gate after at later =
 abbrev pub NoneAhead : List ℕ → ℕ → ℕ → ℕ → Type 0
 NoneAhead bytes gate after at = (past : List (List ℕ)) → IsAhead bytes gate after at past → ¬ AreLate after past
 
--- An item was passed over, and its text reads as a record up to the time.
+-- So many bytes as an item has were passed over, and a text of its length reads as a record up to the time.
 pub record PassesEarly (after : ℕ) (old new : Stretch) : Type 0 where
   pub held : List ℕ
   pub size : ℕ
@@ -43,7 +43,7 @@ pub record PassesEarly (after : ℕ) (old new : Stretch) : Type 0 where
   pub place : new.at ≡ old.at + (5 + size)
   pub behind : new.held ≡ drop (5 + size) held
 
--- Behind an open gate and a length these bytes hold the text of a record past the time.
+-- Behind five bytes these hold the text of a record past the time.
 abbrev pub HoldsLate : ℕ → List ℕ → Type 0
 HoldsLate after held = (size : ℕ) × (known : Record) × (5 + size ≤ length held) × ReadsAs (take size (drop 5 held)) known × (after < known.time)
 

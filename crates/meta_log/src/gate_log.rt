@@ -1,10 +1,10 @@
-ghost use Rattle.std.specs.Prelude.{◌≡◌, ◌≤◌, ◌<◌, ◌+◌, ◌-◌, ◌^◌, ◌⊎◌, ◌++◌, ◌∷◌, [], List, length, ℕ, IfOk, OnOk, IfErr, OnErr, IsErrOf, IfSome, None, Some};
+ghost use Rattle.std.specs.Prelude.{◌≡◌, ◌≤◌, ◌<◌, ◌+◌, ◌-◌, ◌^◌, ◌⊎◌, ◌++◌, ◌∷◌, [], List, length, ℕ, Err, IfOk, OnOk, IfErr, OnErr, IsErrOf, IfSome, None, Some};
 ghost use Rattle.weed_base.specs.Told.{HasCause, IsCauseOf};
 ghost use Rattle.weed_base.specs.Files.{BothTold, Files};
 ghost use Rattle.weed_base.specs.Images.{LeavesOnly, OnlyReads};
 ghost use Rattle.weed_base.specs.Beside.{StaysBeside};
 ghost use Rattle.meta_log.specs.Making.{LeavesOthers};
-ghost use Rattle.meta_log.specs.LogText.{segment_name, ChangesOnly, Suits, MayKeep, IsDamage, IsLogText};
+ghost use Rattle.meta_log.specs.LogText.{segment_name, AppendsAt, ChangesOnly, Suits, MayKeep, IsDamage, IsLogText};
 ghost use Rattle.meta_log.specs.Segment.{items};
 
 use crate::fault::LogFault;
@@ -61,6 +61,8 @@ impl GateLog {
 
         ensures others { BothTold (LeavesOthers stem) (D.files disk.old) (D.files disk.new) }
         ensures cause { IsCauseOf (D.faults disk.old) (D.faults disk.new) (IsErrOf result LogFault.DiskFault) }
+        ensures acts { D.acted disk.new ≤ D.acted disk.old + 6 }
+        ensures left_alone { (file : List ℕ) (at : ℕ) → result ≡ Err (LogFault.Damaged file at) → D.acted disk.new ≤ D.acted disk.old + 1 }
         ensures beside { StaysBeside D.sent D.send_faults D.attachment disk.old disk.new }
     {
         let gate = open_stem(alloc, disk, stem)?;
@@ -79,6 +81,7 @@ impl GateLog {
         ensures failed { OnErr result ((payloads : List (List ℕ)) → HoldsLog (D.files disk.old) self.old payloads
             → HoldsEither (stem_of self.old) (D.files disk.new) payloads text.now) }
         ensures stem { stem_of self.new ≡ stem_of self.old }
+        ensures bytes { OnOk result (AppendsAt (segment_name (stem_of self.old) 1) (gate_of self.old) text.now (D.files disk.old) (D.files disk.new)) }
         ensures moves { OnOk result (gate_of self.old < gate_of self.new) }
         ensures same { OnErr result (self.new ≡ self.old) }
 

@@ -1,4 +1,4 @@
-ghost use Rattle.std.specs.Prelude.{◌≡◌, OnOk, OnErr, IfSome};
+ghost use Rattle.std.specs.Prelude.{◌≡◌, ◌≤◌, ◌+◌, OnOk, OnErr, IfSome};
 ghost use Rattle.weed_base.specs.Told.{HasCause};
 ghost use Rattle.weed_base.specs.Files.{BothTold, Files};
 ghost use Rattle.weed_base.specs.Images.{Only, LeavesOnly};
@@ -20,6 +20,7 @@ fn make_segment<D: Disk>(disk: &mut D, stem: Stem) -> Result<(), Failed>
     ensures settled { OnOk result (Only (D.files disk.new) (D.images disk.new)) }
     ensures others { BothTold (ChangesOnly (segment_name stem 1)) (D.files disk.old) (D.files disk.new) }
     ensures cause { HasCause (D.faults disk.old) (D.faults disk.new) result }
+    ensures acts { D.acted disk.new ≤ D.acted disk.old + 3 }
     ensures beside { StaysBeside D.sent D.send_faults D.attachment disk.old disk.new }
 {
     let segment = first_segment(stem);
@@ -37,6 +38,7 @@ fn make_on<D: Disk>(disk: &mut D, stem: Stem) -> Result<(), Failed>
     ensures settled { OnOk result (Only (D.files disk.new) (D.images disk.new)) }
     ensures others { BothTold (ChangesOnly (on_name stem 1)) (D.files disk.old) (D.files disk.new) }
     ensures cause { HasCause (D.faults disk.old) (D.faults disk.new) result }
+    ensures acts { D.acted disk.new ≤ D.acted disk.old + 2 }
     ensures beside { StaysBeside D.sent D.send_faults D.attachment disk.old disk.new }
 {
     disk.make(&first_on(stem))?;
@@ -53,6 +55,7 @@ pub fn make_first<D: Disk>(disk: &mut D, stem: Stem) -> Result<(), Failed>
     ensures settled { OnOk result (Only (D.files disk.new) (D.images disk.new)) }
     ensures others { BothTold (LeavesOthers stem) (D.files disk.old) (D.files disk.new) }
     ensures cause { HasCause (D.faults disk.old) (D.faults disk.new) result }
+    ensures acts { D.acted disk.new ≤ D.acted disk.old + 5 }
     ensures beside { StaysBeside D.sent D.send_faults D.attachment disk.old disk.new }
 {
     make_segment(disk, stem)?;

@@ -1,4 +1,4 @@
-ghost use Rattle.std.specs.Prelude.{◌≡◌, ◌<◌, ◌≤◌, ◌+◌, ◌⊎◌, ◌++◌, ◌∷◌, [], List, length, ℕ, Bool, false, None, Some, IfOk, OnOk, IfErr, OnErr, IsErrOf, IfSome};
+ghost use Rattle.std.specs.Prelude.{◌≡◌, ◌<◌, ◌≤◌, ◌+◌, ◌⊎◌, ◌++◌, ◌∷◌, [], List, length, ℕ, Bool, false, None, Some, Err, IfOk, OnOk, IfErr, OnErr, IsErrOf, IfSome};
 ghost use Rattle.weed_base.specs.Told.{HasCause, IsCauseOf};
 ghost use Rattle.weed_base.specs.Files.{BothTold, Files};
 ghost use Rattle.weed_base.specs.Images.{LeavesOnly, OnlyReads};
@@ -6,7 +6,7 @@ ghost use Rattle.weed_base.specs.Beside.{StaysBeside};
 ghost use Rattle.name_core.specs.declared.change.Record.{Record};
 ghost use Rattle.name_core.specs.Log.{end_of_time};
 ghost use Rattle.meta_log.specs.Making.{LeavesOthers};
-ghost use Rattle.meta_log.specs.LogText.{segment_name, ChangesOnly};
+ghost use Rattle.meta_log.specs.LogText.{segment_name, AppendsAt, ChangesOnly};
 ghost use Rattle.meta_log.specs.Segment.{items};
 ghost use Rattle.meta_log.specs.Records.{ReadsAs};
 ghost use Rattle.meta_log.specs.declared.stem.Stem.TheVariants.{Log};
@@ -73,6 +73,8 @@ impl MetaLog {
 
         ensures others { BothTold (LeavesOthers Log) (D.files disk.old) (D.files disk.new) }
         ensures cause { IsCauseOf (D.faults disk.old) (D.faults disk.new) (IsErrOf result LogFault.DiskFault) }
+        ensures acts { D.acted disk.new ≤ D.acted disk.old + 6 }
+        ensures left_alone { (file : List ℕ) (at : ℕ) → result ≡ Err (LogFault.Damaged file at) → D.acted disk.new ≤ D.acted disk.old + 1 }
         ensures beside { StaysBeside D.sent D.send_faults D.attachment disk.old disk.new }
     {
         let mut records = RisingRecords {
@@ -113,6 +115,7 @@ impl MetaLog {
         ensures text_failed { OnErr result ((payloads : List (List ℕ)) → HoldsText Log (D.files disk.old) payloads
             → HoldsEither Log (D.files disk.new) payloads text.now) }
 
+        ensures bytes { OnOk result (AppendsAt (segment_name Log 1) (gate_of self.old.log) text.now (D.files disk.old) (D.files disk.new)) }
         ensures front { OnOk result (front_of self.new ≡ record { count = (front_of self.old).count + 1; time = time }) }
         ensures same { OnErr result (self.new ≡ self.old) }
 

@@ -1,4 +1,4 @@
-ghost use Rattle.std.specs.Prelude.{◌≡◌, ◌<◌, ◌≤◌, ◌-◌, ◌^◌, [], List, ℕ, IfOk, IfErr, IsErrOf, IfSome, Some};
+ghost use Rattle.std.specs.Prelude.{◌≡◌, ◌<◌, ◌≤◌, ◌+◌, ◌-◌, ◌^◌, [], List, ℕ, Err, IfOk, IfErr, IsErrOf, IfSome, Some};
 ghost use Rattle.weed_base.specs.Told.{IsCauseOf};
 ghost use Rattle.weed_base.specs.Files.{BothTold, Files};
 ghost use Rattle.weed_base.specs.Images.{Only, LeavesOnly};
@@ -43,6 +43,8 @@ pub fn open_first<D: Disk, C: Check>(
     ensures files { BothTold (IsMadeFrom stem) (D.files disk.old) (D.files disk.new) }
     ensures others { BothTold (LeavesOthers stem) (D.files disk.old) (D.files disk.new) }
     ensures cause { IsCauseOf (D.faults disk.old) (D.faults disk.new) (IsErrOf result LogFault.DiskFault) }
+    ensures acts { D.acted disk.new ≤ D.acted disk.old + 6 }
+    ensures left_alone { (file : List ℕ) (at : ℕ) → result ≡ Err (LogFault.Damaged file at) → D.acted disk.new ≤ D.acted disk.old + 1 }
     ensures beside { StaysBeside D.sent D.send_faults D.attachment disk.old disk.new }
 {
     disk.sync()?;
@@ -78,6 +80,8 @@ pub fn open_stem<D: Disk>(alloc: Global, disk: &mut D, stem: Stem) -> Result<u64
     ensures files { BothTold (IsMadeFrom stem) (D.files disk.old) (D.files disk.new) }
     ensures others { BothTold (LeavesOthers stem) (D.files disk.old) (D.files disk.new) }
     ensures cause { IsCauseOf (D.faults disk.old) (D.faults disk.new) (IsErrOf result LogFault.DiskFault) }
+    ensures acts { D.acted disk.new ≤ D.acted disk.old + 6 }
+    ensures left_alone { (file : List ℕ) (at : ℕ) → result ≡ Err (LogFault.Damaged file at) → D.acted disk.new ≤ D.acted disk.old + 1 }
     ensures beside { StaysBeside D.sent D.send_faults D.attachment disk.old disk.new }
 {
     match stem {

@@ -26,6 +26,7 @@ pub fn write_settled<D: Disk>(
     ensures others { BothTold (ChangesOnly name.now) (D.files disk.old) (D.files disk.new) }
     ensures bound { OnOk result (at + length piece.now < 2 ^ 63) }
     ensures cause { HasCause (D.faults disk.old) (D.faults disk.new) result }
+    ensures acts { D.acted disk.new ≤ D.acted disk.old + 2 }
     ensures beside { StaysBeside D.sent D.send_faults D.attachment disk.old disk.new }
 {
     disk.write_at(name, at, piece)?;

@@ -94,6 +94,7 @@ impl PlainFiler {
         ensures own { (files : Files) → D.files disk.old ≡ Some files → IsOwn (D.images disk.old) → IfErr result (IfDamaged (λ _ _. ⊥)) }
 
         ensures cause { IsCauseOf (D.faults disk.old) (D.faults disk.new) (IsErrOf result LogFault.DiskFault) }
+        ensures acts { D.acted disk.new ≤ D.acted disk.old + 6 }
         ensures beside { StaysBeside D.sent D.send_faults D.attachment disk.old disk.new }
     {
         let log = MetaLog::open(alloc, disk)?;

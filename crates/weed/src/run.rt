@@ -1,4 +1,4 @@
-ghost use Rattle.std.specs.Prelude.{◌≡◌, ◌≢◌, ◌↔◌, ◌≤◌, ◌⊎◌, List, ℕ, length, Ok, Err, Some, IfOk, IfErr, IfSome, IsErrOf, MatchResult};
+ghost use Rattle.std.specs.Prelude.{◌≡◌, ◌≢◌, ◌↔◌, ◌≤◌, ◌+◌, ◌⊎◌, List, ℕ, length, Ok, Err, Some, IfOk, IfErr, IfSome, IsErrOf, MatchResult};
 ghost use Rattle.weed_base.specs.Told.{Rose, IsCauseOf};
 ghost use Rattle.weed_base.specs.Attachment.{Attaches, attached_to};
 ghost use Rattle.weed_base.specs.Sent.{bytes_sent, SendsNothing};
@@ -176,6 +176,7 @@ fn begin<H: Host>(alloc: Global, dir: &[u8], host: &mut H) -> Result<Session, Ex
         → IsRecordLog files records → ImagesKeep (H.images host.new) records) }
     ensures own { (files : Files) → H.files host.old ≡ Some files → IsOwn (H.images host.old) → IfErr result (IfDamagedExit (λ _ _. ⊥)) }
     ensures cause { IsCauseOf (H.faults host.old) (H.faults host.new) (IsErrOf result Exit.DiskFault) }
+    ensures acts { H.acted host.new ≤ H.acted host.old + 7 }
     ensures sent { SendsNothing H.sent H.send_faults host.old host.new }
     ensures attached { MatchResult result
         (λ _. H.attachment host.new ≡ attached_to dir.now (H.tick host.old) (H.attachment host.old))
@@ -200,6 +201,7 @@ fn attach<H: Host>(alloc: Global, dir: &[u8], host: &mut H) -> Result<(), Exit>
     ensures files { H.files host.new ≡ H.files host.old }
     ensures still { OnlyReads H.tick H.images H.image_since host.old host.new }
     ensures cause { IsCauseOf (H.faults host.old) (H.faults host.new) (IsErrOf result Exit.DiskFault) }
+    ensures acts { H.acted host.new ≤ H.acted host.old + 1 }
     ensures sent { SendsNothing H.sent H.send_faults host.old host.new }
     ensures attached { Attaches dir.now (H.tick host.old) (H.attachment host.old) (H.attachment host.new) result }
     ensures calls { IfErr result (λ exit. EndsUncalled exit (H.tick host.old) (H.tick host.new)) }

@@ -101,6 +101,7 @@ pub trait Disk {
         ensures time { Elapses (tick self.old) (tick self.new) (image_since self.old) (image_since self.new) (images self.new) }
         ensures cause { HasCause (faults self.old) (faults self.new) result }
         ensures sent { SendsNothing sent send_faults self.old self.new }
+        ensures acts { acted self.new ≤ acted self.old + 1 }
         ensures once { one_call self.old self.new (AttachTo place) }
         ensures spent { tick self.old ≡ 2 ^ 64 - 1 → IsErr result };
 
@@ -139,7 +140,7 @@ pub trait Disk {
         ensures cause { HasCause (faults self.old) (faults self.new) result }
         ensures beside { StaysBeside sent send_faults attachment self.old self.new }
         ensures looks { acted self.new ≡ acted self.old }
-        ensures once { one_call self.old self.new (ReadInto name.now at room.new) }
+        ensures once { one_call self.old self.new (ReadInto name.now at room.old room.new) }
         ensures spent { tick self.old ≡ 2 ^ 64 - 1 → IsErr result };
 
     /// Writes the piece over what is there, and past the end. A write whose end would pass 2^63 - 1 fails.
@@ -154,6 +155,7 @@ pub trait Disk {
         ensures time { Elapses (tick self.old) (tick self.new) (image_since self.old) (image_since self.new) (images self.new) }
         ensures cause { HasCause (faults self.old) (faults self.new) result }
         ensures beside { StaysBeside sent send_faults attachment self.old self.new }
+        ensures acts { acted self.new ≤ acted self.old + 1 }
         ensures once { one_call self.old self.new (WriteAt name.now at piece.now) }
         ensures spent { tick self.old ≡ 2 ^ 64 - 1 → IsErr result };
 
@@ -165,6 +167,7 @@ pub trait Disk {
         ensures time { Elapses (tick self.old) (tick self.new) (image_since self.old) (image_since self.new) (images self.new) }
         ensures cause { HasCause (faults self.old) (faults self.new) result }
         ensures beside { StaysBeside sent send_faults attachment self.old self.new }
+        ensures acts { acted self.new ≤ acted self.old + 1 }
         ensures once { one_call self.old self.new (CutTo name.now to) }
         ensures spent { tick self.old ≡ 2 ^ 64 - 1 → IsErr result };
 
@@ -176,6 +179,7 @@ pub trait Disk {
         ensures time { Elapses (tick self.old) (tick self.new) (image_since self.old) (image_since self.new) (images self.new) }
         ensures cause { HasCause (faults self.old) (faults self.new) result }
         ensures beside { StaysBeside sent send_faults attachment self.old self.new }
+        ensures acts { acted self.new ≤ acted self.old + 1 }
         ensures once { one_call self.old self.new (Make name.now) }
         ensures spent { tick self.old ≡ 2 ^ 64 - 1 → IsErr result };
 
@@ -186,6 +190,7 @@ pub trait Disk {
         ensures time { Elapses (tick self.old) (tick self.new) (image_since self.old) (image_since self.new) (images self.new) }
         ensures cause { HasCause (faults self.old) (faults self.new) result }
         ensures beside { StaysBeside sent send_faults attachment self.old self.new }
+        ensures acts { acted self.new ≤ acted self.old + 1 }
         ensures once { one_call self.old self.new (Remove name.now) }
         ensures spent { tick self.old ≡ 2 ^ 64 - 1 → IsErr result };
 
@@ -199,6 +204,7 @@ pub trait Disk {
         ensures time { Elapses (tick self.old) (tick self.new) (image_since self.old) (image_since self.new) (images self.new) }
         ensures cause { HasCause (faults self.old) (faults self.new) result }
         ensures beside { StaysBeside sent send_faults attachment self.old self.new }
+        ensures acts { acted self.new ≤ acted self.old + 1 }
         ensures once { one_call self.old self.new (Rename from.now to.now) }
         ensures spent { tick self.old ≡ 2 ^ 64 - 1 → IsErr result };
 
@@ -210,6 +216,7 @@ pub trait Disk {
         ensures time { Elapses (tick self.old) (tick self.new) (image_since self.old) (image_since self.new) (images self.new) }
         ensures cause { HasCause (faults self.old) (faults self.new) result }
         ensures beside { StaysBeside sent send_faults attachment self.old self.new }
+        ensures acts { acted self.new ≤ acted self.old + 1 }
         ensures once { one_call self.old self.new Settle }
         ensures spent { tick self.old ≡ 2 ^ 64 - 1 → IsErr result };
 

@@ -184,6 +184,7 @@ impl<F: SystemFile + Drop, R: System<File = F> + AllocGlobal + Clone + Drop> Dis
         ensures attachment { self.new.attachment ≡ self.old.attachment }
         ensures keeps { StaysAttached self.old self.new }
         ensures names { IfOk result (λ names. IsSomeAnd self.old.folder (IsListing R.answered names)) }
+        ensures detached { self.old.folder ≡ None → IsErrOf result NamesFault.Failed }
     {
         if self.counts.begin().is_err() {
             return Err(NamesFault::Failed);

@@ -58,7 +58,8 @@ impl<F: SystemFile + Drop> KeptFile<F> {
         Ok(())
     }
 
-    /// Writes, and awaits a sync even where that failed. A write whose end would pass 2^63 - 1 isn't tried.
+    /// Writes, and awaits a sync even where that failed. A write whose end would pass 2^63 - 1
+    /// fails.
     fn write_at(&mut self, at: u64, piece: &[u8]) -> io::Result<()>
         ensures name { self.new.name ≡ self.old.name }
         ensures still { Covers self.new.awaits self.old.awaits }
