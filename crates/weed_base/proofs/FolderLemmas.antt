@@ -4,8 +4,8 @@ use Rattle.std.specs.List.{position}
 use Rattle.std.specs.Str.{bytes_eq}
 use Rattle.weed_base.specs.Files.{BothTold}
 use Rattle.weed_base.specs.System.{PathCall, Opened, Made, path_in}
-use Rattle.weed_base.specs.Awaiting.{Covers, IsNamedAt, IsFileAt, IsOpenAs, OpensNone, StillAwaits}
-use Rattle.weed_base.specs.Folder.{IsOpenFile, IsOpenAt, IsSameFolder, OpensByName, KeepsFolder, MarksNoMore, path_of}
+use Rattle.weed_base.specs.Awaiting.{Covers, Awaiting, IsNamedAt, IsFileAt, IsOpenAs, OpensNone, StillAwaits}
+use Rattle.weed_base.specs.Folder.{IsOpenFile, IsOpenAt, IsSameFolder, OpensByName, OpensOne, KeepsFolder, MarksNoMore, NamesMayHaveChanged, path_of}
 use Rattle.weed_base.specs.declared.real.kept.Awaits.{Awaits}
 use Rattle.weed_base.specs.declared.real.kept.Awaits.TheVariants.{Nothing}
 use Rattle.weed_base.specs.declared.real.kept.KeptFile.{KeptFile}
@@ -14,31 +14,31 @@ use Rattle.weed_base.specs.declared.real.folder.Folder.{Folder}
 use Rattle.weed_base.proofs.AwaitingLemmas.{named_at_position, covers_nothing}
 
 -- the path of a name stays where the directory does
-path_same : {R F : Type 0} {before after : Folder R F} → IsSameFolder before after → (name : List ℕ) → path_of after name ≡ path_of before name
+path_same : {F : Type 0} {before after : Folder F} → IsSameFolder before after → (name : List ℕ) → path_of after name ≡ path_of before name
 path_same same name = ap (λ path. path_in (string_bytes path) name) same.path
 
-opens_along : {R F : Type 0} (answered : PathCall F → R → Type 0) (first middle last : Folder R F) → IsSameFolder first middle → OpensByName answered first middle → OpensByName answered middle last → OpensByName answered first last
+opens_along : {F : Type 0} (answered : PathCall F → Type 0) (first middle last : Folder F) → IsSameFolder first middle → OpensByName answered first middle → OpensByName answered middle last → OpensByName answered first last
 opens_along answered first middle last same one two name file found =
     elim (two name file found) [
       | inl (inl was) ↦ one name file was
-      | inl (inr opened) ↦ inl (inr (subst (λ system. answered (Opened (path_of first name) file) system) same.system (subst (λ path. answered (Opened path file) middle.system) (path_same same name) opened)))
-      | inr made ↦ inr (subst (λ system. answered (Made (path_of first name) file) system) same.system (subst (λ path. answered (Made path file) middle.system) (path_same same name) made))
+      | inl (inr opened) ↦ inl (inr (subst (λ path. answered (Opened path file)) (path_same same name) opened))
+      | inr made ↦ inr (subst (λ path. answered (Made path file)) (path_same same name) made)
     ]
 
-pub keeps_along : {R F : Type 0} (answered : PathCall F → R → Type 0) {first middle last : Folder R F} → KeepsFolder answered first middle → KeepsFolder answered middle last → KeepsFolder answered first last
+pub keeps_along : {F : Type 0} (answered : PathCall F → Type 0) {first middle last : Folder F} → KeepsFolder answered first middle → KeepsFolder answered middle last → KeepsFolder answered first last
 keeps_along answered {first} {middle} {last} one two = record {
-  same = record { system = two.same.system ∙ one.same.system; path = two.same.path ∙ one.same.path; directory = two.same.directory ∙ one.same.directory };
+  same = record { path = two.same.path ∙ one.same.path; directory = two.same.directory ∙ one.same.directory };
   opens = opens_along answered first middle last one.same one.opens two.opens;
   files = λ name file mark something found. two.files name file mark something (one.files name file mark something found);
   names = λ was. two.names (one.names was);
 }
 
 -- a change of the open files alone
-pub keeps_by : {R F : Type 0} (answered : PathCall F → R → Type 0) (folder : Folder R F) (kept : KeptFiles F) → OpensByName answered folder (record folder { kept = kept }) → StillAwaits folder.kept.files.items kept.files.items → (folder.kept.names_await ≡ true → kept.names_await ≡ true) → kept.directory ≡ folder.kept.directory → KeepsFolder answered folder (record folder { kept = kept })
-keeps_by answered folder kept opens files names directory = record { same = record { system = refl; path = refl; directory = directory }; opens = opens; files = files; names = names }
+pub keeps_by : {F : Type 0} (answered : PathCall F → Type 0) (folder : Folder F) (kept : KeptFiles F) → OpensByName answered folder (record folder { kept = kept }) → StillAwaits folder.kept.files.items kept.files.items → (folder.kept.names_await ≡ true → kept.names_await ≡ true) → kept.directory ≡ folder.kept.directory → KeepsFolder answered folder (record folder { kept = kept })
+keeps_by answered folder kept opens files names directory = record { same = record { path = refl; directory = directory }; opens = opens; files = files; names = names }
 
 -- a call that opens none
-pub opens_none : {R F : Type 0} (answered : PathCall F → R → Type 0) (folder : Folder R F) (kept : KeptFiles F) → OpensNone folder.kept.files.items kept.files.items → OpensByName answered folder (record folder { kept = kept })
+pub opens_none : {F : Type 0} (answered : PathCall F → Type 0) (folder : Folder F) (kept : KeptFiles F) → OpensNone folder.kept.files.items kept.files.items → OpensByName answered folder (record folder { kept = kept })
 opens_none answered folder kept none name file found = inl (inl (none name file found))
 
 -- a place in a list has one item
@@ -66,6 +66,10 @@ pub of_placed : {F T E : Type 0} (answered : PathCall F → Type 0) (path name :
 of_placed answered path name before after place (Ok value) P (file, stands, asked) then = (file, asked, then file stands)
 of_placed answered path name before after place (Err error) P found then = tt
 
+-- what holds of the file at a place is of an open file
+pub of_place : {F Q : Type 0} (answered : PathCall F → Type 0) (path name : List ℕ) (before after : List (KeptFile F)) (place : ℕ) (P : F → Type 0) → IsOpenAt answered path name before after place → ((file : F) → IsFileAt place after file → P file) → ((file : F) → IsOpenFile answered path name before file → P file → Q) → Q
+of_place answered path name before after place P (file, stands, asked) holds then = then file asked (holds file stands)
+
 one_file : {F : Type 0} (files : List (KeptFile F)) (place : ℕ) (one other : F) → place < length files → IsFileAt place files one → IsFileAt place files other → one ≡ other
 one_file [] place one other within first second = absurd (omega (arith, within))
 one_file (some ∷ files) place one other within first second = sym (first some) ∙ second some
@@ -84,16 +88,29 @@ pub get_or_is : (items : List (List ℕ)) (place k : ℕ) (item d : List ℕ) �
 get_or_is items place k item d within here is = is ∙ get_or_same items place item d within ∙ ap (λ it. get_or items it d) (sym here)
 
 -- one more is open, which was made or opened at the path of its name
-pub opens_one : {R F : Type 0} (answered : PathCall F → R → Type 0) (folder : Folder R F) (kept : KeptFiles F) (new : KeptFile F) → (answered (Opened (path_of folder new.name) new.file) folder.system ⊎ answered (Made (path_of folder new.name) new.file) folder.system) → ((name : List ℕ) (file : F) → IsOpenAs name file kept.files.items → IsOpenAs name file folder.kept.files.items ⊎ ((new.name ≡ name) × (new.file ≡ file))) → OpensByName answered folder (record folder { kept = kept })
-opens_one {F = F} answered folder kept new came only name file found =
-    elim (only name file found) [
+pub opens_one : {F : Type 0} (answered : PathCall F → Type 0) (before after : Folder F) (name : List ℕ) (new : F) → (answered (Opened (path_of before name) new) ⊎ answered (Made (path_of before name) new)) → OpensOne name new before after → OpensByName answered before after
+opens_one {F} answered before after name new came only other file found =
+    elim (only other file found) [
       | inl was ↦ inl (inl was)
       | inr is ↦
           elim came [
-            | inl opened ↦ inl (inr (subst (λ (it : F). answered (Opened (path_of folder name) it) folder.system) is.1 (subst (λ it. answered (Opened (path_of folder it) new.file) folder.system) is.0 opened)))
-            | inr made ↦ inr (subst (λ (it : F). answered (Made (path_of folder name) it) folder.system) is.1 (subst (λ it. answered (Made (path_of folder it) new.file) folder.system) is.0 made))
+            | inl opened ↦ inl (inr (subst (λ (it : F). answered (Opened (path_of before other) it)) is.1 (subst (λ it. answered (Opened (path_of before it) new)) is.0 opened)))
+            | inr made ↦ inr (subst (λ (it : F). answered (Made (path_of before other) it)) is.1 (subst (λ it. answered (Made (path_of before it) new)) is.0 made))
           ]
     ]
+
+-- a file more is kept
+pub keeps_one : {F : Type 0} (answered : PathCall F → Type 0) {before after : Folder F} (name : List ℕ) (new : F) → (answered (Opened (path_of before name) new) ⊎ answered (Made (path_of before name) new)) → IsSameFolder before after → OpensOne name new before after → StillAwaits before.kept.files.items after.kept.files.items → after.kept.names_await ≡ before.kept.names_await → KeepsFolder answered before after
+keeps_one answered {before} {after} name new came same only still names = record { same = same; opens = opens_one answered before after name new came only; files = still; names = λ was. names ∙ was }
+
+-- names may have changed
+pub keeps_noted : {F : Type 0} (answered : PathCall F → Type 0) {before after : Folder F} → IsSameFolder before after → NamesMayHaveChanged before after → KeepsFolder answered before after
+keeps_noted {F} answered {before} {after} same noted = record {
+  same = same;
+  opens = λ name file found. inl (inl (subst (λ (files : List (KeptFile F)). IsOpenAs name file files) noted.files found));
+  files = λ name file mark something found. subst (λ (files : List (KeptFile F)). Awaiting name file mark files) (sym noted.files) found;
+  names = λ was. noted.names;
+}
 
 -- the directory before and the one after, where one was attached
 pub both_some : {X : Type 0} (R : X → X → Type 0) (before after : Option X) → BothTold R before after → IfSome before (λ old. (new : X) × R old new)
@@ -103,7 +120,7 @@ both_some R (Some old) None told = absurd told
 both_some R (Some old) (Some new) told = (new, told)
 
 -- no mark rose, and then only those that may
-pub marks_along : {R F : Type 0} {May : List ℕ → Awaits → Type 0} {Named : Type 0} {first middle last : Folder R F} → MarksNoMore (λ _ _. ⊥) ⊥ first middle → MarksNoMore May Named middle last → MarksNoMore May Named first last
+pub marks_along : {F : Type 0} {May : List ℕ → Awaits → Type 0} {Named : Type 0} {first middle last : Folder F} → MarksNoMore (λ _ _. ⊥) ⊥ first middle → MarksNoMore May Named middle last → MarksNoMore May Named first last
 marks_along one two = record {
   files = λ name file mark something found. elim (two.files name file mark something found) [
     | inl was ↦ elim (one.files name file mark something was) [ inl stood ↦ inl stood | inr none ↦ absurd none ]
@@ -116,15 +133,15 @@ marks_along one two = record {
 }
 
 -- a directory that stays as it was
-marks_same : {R F : Type 0} {May : List ℕ → Awaits → Type 0} {Named : Type 0} {folder : Folder R F} → MarksNoMore May Named folder folder
+marks_same : {F : Type 0} {May : List ℕ → Awaits → Type 0} {Named : Type 0} {folder : Folder F} → MarksNoMore May Named folder folder
 marks_same = record { files = λ name file mark something found. inl found; names = inl refl }
 
 -- no mark rose, so none but those that may
-pub marks_none : {R F : Type 0} {May : List ℕ → Awaits → Type 0} {Named : Type 0} {first last : Folder R F} → MarksNoMore (λ _ _. ⊥) ⊥ first last → MarksNoMore May Named first last
+pub marks_none : {F : Type 0} {May : List ℕ → Awaits → Type 0} {Named : Type 0} {first last : Folder F} → MarksNoMore (λ _ _. ⊥) ⊥ first last → MarksNoMore May Named first last
 marks_none one = marks_along one marks_same
 
 -- a file that awaits nothing raises none
-pub marks_nothing : {R F : Type 0} {Is : List ℕ → Type 0} {first last : Folder R F} → MarksNoMore (λ other mark. Is other × Covers Nothing mark) ⊥ first last → MarksNoMore (λ _ _. ⊥) ⊥ first last
+pub marks_nothing : {F : Type 0} {Is : List ℕ → Type 0} {first last : Folder F} → MarksNoMore (λ other mark. Is other × Covers Nothing mark) ⊥ first last → MarksNoMore (λ _ _. ⊥) ⊥ first last
 marks_nothing more = record {
   files = λ name file mark something found. elim (more.files name file mark something found) [
     | inl was ↦ inl was

@@ -11,3 +11,4 @@ pub mod StreamLemmas
 pub mod ListLemmas
 pub mod AwaitingLemmas
 pub mod FolderLemmas
+pub mod ActLemmas

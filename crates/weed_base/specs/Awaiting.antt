@@ -2,7 +2,7 @@
 use Rattle.std.specs.Prelude.{◌≡◌, ◌≢◌, ◌⊎◌, ◌<◌, ℕ, cond, not, List, length, filter, map, slice_index_or, ⊤}
 use Rattle.std.specs.Str.{bytes_eq}
 use Rattle.std.specs.List.{Any}
-use Rattle.weed_base.specs.System.{FileCall, SettledData, SettledAll}
+use Rattle.weed_base.specs.System.{FileCall, SettleData, SettleAll}
 use Rattle.weed_base.specs.declared.real.kept.Awaits.{Awaits}
 use Rattle.weed_base.specs.declared.real.kept.Awaits.TheVariants.{Nothing, Data, Everything}
 use Rattle.weed_base.specs.declared.real.kept.KeptFile.{KeptFile}
@@ -48,8 +48,8 @@ OpensNone {F} old new = (name : List ℕ) (file : F) → IsOpenAs name file new 
 -- What a file awaited was settled by a sync of its kind, which answered Ok.
 abbrev pub IsSettledBy : {F : Type 0} → (FileCall → F → Type 0) → Awaits → F → Type 0
 IsSettledBy answered Nothing file = ⊤
-IsSettledBy answered Data file = answered SettledData file
-IsSettledBy answered Everything file = answered SettledAll file
+IsSettledBy answered Data file = answered SettleData file
+IsSettledBy answered Everything file = answered SettleAll file
 
 -- The file is the same, and its mark stays, or falls to nothing by an answer.
 pub record FallsByAnswer {F : Type 0} (answered : FileCall → F → Type 0) (before after : KeptFile F) : Type 0 where

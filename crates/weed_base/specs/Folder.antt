@@ -4,7 +4,7 @@ use Rattle.std.specs.Cmp.Lexicographic.{slice_cmp}
 use Rattle.std.specs.Ordering.{nat_cmp}
 use Rattle.std.specs.List.{All, AllZip}
 use Rattle.std.specs.List.Sorted.{IsSorted, IsPermutation}
-use Rattle.weed_base.specs.System.{FileCall, CutTo, SettledAll, PathCall, MadeDirectory, OpenedToSettle, Opened, Missed, Made, Removed, Renamed, Listed, path_in, directory_above}
+use Rattle.weed_base.specs.System.{FileCall, CutTo, SettleAll, Act, CallFile, MakeFile, PathCall, MadeDirectory, OpenedToSettle, Opened, Missed, Made, Removed, Renamed, Listed, path_in, directory_above}
 use Rattle.weed_base.specs.Awaiting.{Awaiting, IsOpenAs, IsFileAt, StillAwaits, AwaitsNoMore, AwaitsNothing, FallsByAnswer, without, AreRenamed}
 use Rattle.weed_base.specs.declared.real.kept.Awaits.{Awaits}
 use Rattle.weed_base.specs.declared.real.kept.Awaits.TheVariants.{Everything}
@@ -20,92 +20,104 @@ abbrev pub IsOpenAt : {F : Type 0} → (PathCall F → Type 0) → List ℕ → 
 IsOpenAt {F} answered path name before after place = (file : F) × IsFileAt place after file × IsOpenFile answered path name before file
 
 -- The path of that name in the directory.
-abbrev pub path_of : {R F : Type 0} → Folder R F → List ℕ → List ℕ
+abbrev pub path_of : {F : Type 0} → Folder F → List ℕ → List ℕ
 path_of folder name = path_in (string_bytes folder.path) name
 
 -- An open file of that name in the directory is so.
-abbrev pub OfFile : {R F : Type 0} → (PathCall F → R → Type 0) → (F → Type 0) → List ℕ → Folder R F → Type 0
-OfFile {R} {F} answered P name folder =
-    (file : F) × IsOpenFile (λ call. answered call folder.system) (path_of folder name) name folder.kept.files.items file × P file
+abbrev pub OfFile : {F : Type 0} → (PathCall F → Type 0) → (F → Type 0) → List ℕ → Folder F → Type 0
+OfFile {F} answered P name folder = (file : F) × IsOpenFile answered (path_of folder name) name folder.kept.files.items file × P file
 
 -- The same, or no file of that name is there, and that is so.
-abbrev pub OfFileOrMissed : {R F : Type 0} → (PathCall F → R → Type 0) → Type 0 → (F → Type 0) → List ℕ → Folder R F → Type 0
-OfFileOrMissed answered Q P name folder = OfFile answered P name folder ⊎ (answered (Missed (path_of folder name)) folder.system × Q)
+abbrev pub OfFileOrMissed : {F : Type 0} → (PathCall F → Type 0) → Type 0 → (F → Type 0) → List ℕ → Folder F → Type 0
+OfFileOrMissed answered Q P name folder = OfFile answered P name folder ⊎ (answered (Missed (path_of folder name)) × Q)
+
+-- The act is that call of an open file of that name.
+abbrev pub IsCallOf : {F : Type 0} → (PathCall F → Type 0) → FileCall → List ℕ → Folder F → Act F → Type 0
+IsCallOf answered call name folder act = OfFile answered (λ file. act ≡ CallFile file call) name folder
+
+-- The act empties an open file of that name, or makes one where none was found.
+abbrev pub IsMaking : {F : Type 0} → (PathCall F → Type 0) → List ℕ → Folder F → Act F → Type 0
+IsMaking answered name folder act =
+    IsCallOf answered (CutTo 0) name folder act ⊎ (answered (Missed (path_of folder name)) × (act ≡ MakeFile (path_of folder name)))
 
 -- What lies at that path was opened, and settled whole.
 abbrev pub IsSettledAt : {F : Type 0} → (PathCall F → Type 0) → (FileCall → F → Type 0) → List ℕ → Type 0
-IsSettledAt {F} by_path by_file path = (file : F) × by_path (OpenedToSettle path file) × by_file SettledAll file
+IsSettledAt {F} by_path by_file path = (file : F) × by_path (OpenedToSettle path file) × by_file SettleAll file
 
 -- These are the names that were listed in the directory, in byte order.
-abbrev pub IsListing : {R F : Type 0} → (PathCall F → R → Type 0) → List (List ℕ) → Folder R F → Type 0
+abbrev pub IsListing : {F : Type 0} → (PathCall F → Type 0) → List (List ℕ) → Folder F → Type 0
 IsListing answered names folder =
-    (listed : List (List ℕ)) × answered (Listed (string_bytes folder.path) listed) folder.system × IsPermutation listed names × IsSorted (slice_cmp nat_cmp) names
+    (listed : List (List ℕ)) × answered (Listed (string_bytes folder.path) listed) × IsPermutation listed names × IsSorted (slice_cmp nat_cmp) names
 
 -- The directory is the same one.
-pub record IsSameFolder {R F : Type 0} (before after : Folder R F) : Type 0 where
-  pub system : after.system ≡ before.system
+pub record IsSameFolder {F : Type 0} (before after : Folder F) : Type 0 where
   pub path : after.path ≡ before.path
   pub directory : after.kept.directory ≡ before.kept.directory
 
 -- Each file that is open was so before under that name, or was opened or made at the path of it.
-abbrev pub OpensByName : {R F : Type 0} → (PathCall F → R → Type 0) → Folder R F → Folder R F → Type 0
-OpensByName {F = F} answered before after =
+abbrev pub OpensByName : {F : Type 0} → (PathCall F → Type 0) → Folder F → Folder F → Type 0
+OpensByName {F} answered before after =
     (name : List ℕ) (file : F) → IsOpenAs name file after.kept.files.items
-    → IsOpenFile (λ call. answered call before.system) (path_of before name) name before.kept.files.items file ⊎ answered (Made (path_of before name) file) before.system
+    → IsOpenFile answered (path_of before name) name before.kept.files.items file ⊎ answered (Made (path_of before name) file)
+
+-- Each file that is open was so before, but for this one.
+abbrev pub OpensOne : {F : Type 0} → List ℕ → F → Folder F → Folder F → Type 0
+OpensOne {F} name file before after =
+    (other : List ℕ) (held : F) → IsOpenAs other held after.kept.files.items → IsOpenAs other held before.kept.files.items ⊎ ((name ≡ other) × (file ≡ held))
 
 -- The same directory. Each open file is the one at its name's path, and what awaited a sync still does.
-pub record KeepsFolder {R F : Type 0} (answered : PathCall F → R → Type 0) (before after : Folder R F) : Type 0 where
+pub record KeepsFolder {F : Type 0} (answered : PathCall F → Type 0) (before after : Folder F) : Type 0 where
   pub same : IsSameFolder before after
   pub opens : OpensByName answered before after
   pub files : StillAwaits before.kept.files.items after.kept.files.items
   pub names : before.kept.names_await ≡ true → after.kept.names_await ≡ true
 
 -- No mark rose but those that may, and the names await a sync as before, or `Named` says why not.
-pub record MarksNoMore {R F : Type 0} (May : List ℕ → Awaits → Type 0) (Named : Type 0) (before after : Folder R F) : Type 0 where
+pub record MarksNoMore {F : Type 0} (May : List ℕ → Awaits → Type 0) (Named : Type 0) (before after : Folder F) : Type 0 where
   pub files : AwaitsNoMore May before.kept.files.items after.kept.files.items
   pub names : (after.kept.names_await ≡ before.kept.names_await) ⊎ Named
 
 -- Nothing of the directory awaits a sync.
-abbrev pub IsSettledWhole : {R F : Type 0} → Folder R F → Type 0
+abbrev pub IsSettledWhole : {F : Type 0} → Folder F → Type 0
 IsSettledWhole folder = All AwaitsNothing folder.kept.files.items × (folder.kept.names_await ≡ false)
 
 -- A directory was opened: it was asked to be made, and it, its files and the one above it were settled whole. None of
 -- its files stays open.
-pub record IsOpenedFolder {R F : Type 0} (by_path : PathCall F → R → Type 0) (by_file : FileCall → F → Type 0) (place : List ℕ) (folder : Folder R F) : Type 0 where
+pub record IsOpenedFolder {F : Type 0} (by_path : PathCall F → Type 0) (by_file : FileCall → F → Type 0) (place : List ℕ) (folder : Folder F) : Type 0 where
   pub path : string_bytes folder.path ≡ place
-  pub made : by_path (MadeDirectory place) folder.system
-  pub above : IsSettledAt (λ call. by_path call folder.system) by_file (directory_above place)
-  pub directory : by_path (OpenedToSettle place folder.kept.directory) folder.system
-  pub names : by_file SettledAll folder.kept.directory
-  pub files : (listed : List (List ℕ)) × by_path (Listed place listed) folder.system × All (λ name. IsSettledAt (λ call. by_path call folder.system) by_file (path_in place name)) listed
+  pub made : by_path (MadeDirectory place)
+  pub above : IsSettledAt by_path by_file (directory_above place)
+  pub directory : by_path (OpenedToSettle place folder.kept.directory)
+  pub names : by_file SettleAll folder.kept.directory
+  pub files : (listed : List (List ℕ)) × by_path (Listed place listed) × All (λ name. IsSettledAt by_path by_file (path_in place name)) listed
   pub closed : folder.kept.files.items ≡ []
   pub named : folder.kept.names_await ≡ false
 
 -- A file that was there was emptied, or one was made, and the names await a sync; it awaits a sync of everything.
-abbrev pub HasMade : {R F : Type 0} → (PathCall F → R → Type 0) → (FileCall → F → Type 0) → List ℕ → Folder R F → Folder R F → Type 0
-HasMade {F = F} by_path by_file name before after =
+abbrev pub HasMade : {F : Type 0} → (PathCall F → Type 0) → (FileCall → F → Type 0) → List ℕ → Folder F → Folder F → Type 0
+HasMade {F} by_path by_file name before after =
     OfFile by_path (λ file. by_file (CutTo 0) file × Awaiting name file Everything after.kept.files.items) name before
-    ⊎ (((file : F) × by_path (Made (path_of before name) file) before.system × Awaiting name file Everything after.kept.files.items) × (after.kept.names_await ≡ true))
+    ⊎ (((file : F) × by_path (Made (path_of before name) file) × Awaiting name file Everything after.kept.files.items) × (after.kept.names_await ≡ true))
 
 -- A file was removed.
-pub record HasRemoved {R F : Type 0} (answered : PathCall F → R → Type 0) (name : List ℕ) (before after : Folder R F) : Type 0 where
-  pub call : answered (Removed (path_of before name)) before.system
+pub record HasRemoved {F : Type 0} (answered : PathCall F → Type 0) (name : List ℕ) (before after : Folder F) : Type 0 where
+  pub call : answered (Removed (path_of before name))
   pub files : after.kept.files.items ≡ without name before.kept.files.items
   pub names : after.kept.names_await ≡ true
 
 -- A file was renamed.
-pub record HasRenamed {R F : Type 0} (answered : PathCall F → R → Type 0) (from to : List ℕ) (before after : Folder R F) : Type 0 where
-  pub call : answered (Renamed (path_of before from) (path_of before to)) before.system
+pub record HasRenamed {F : Type 0} (answered : PathCall F → Type 0) (from to : List ℕ) (before after : Folder F) : Type 0 where
+  pub call : answered (Renamed (path_of before from) (path_of before to))
   pub equal : from ≡ to → after.kept.files.items ≡ before.kept.files.items
   pub moved : from ≢ to → AreRenamed from to before.kept.files.items after.kept.files.items
   pub names : after.kept.names_await ≡ true
 
 -- Names may have changed, and await a sync; the files are the same.
-pub record NamesMayHaveChanged {R F : Type 0} (before after : Folder R F) : Type 0 where
+pub record NamesMayHaveChanged {F : Type 0} (before after : Folder F) : Type 0 where
   pub files : after.kept.files.items ≡ before.kept.files.items
   pub names : after.kept.names_await ≡ true
 
 -- What awaited a sync fell by an answer of one alone.
-pub record SettlesFiles {R F : Type 0} (answered : FileCall → F → Type 0) (before after : Folder R F) : Type 0 where
+pub record SettlesFiles {F : Type 0} (answered : FileCall → F → Type 0) (before after : Folder F) : Type 0 where
   pub files : AllZip (FallsByAnswer answered) before.kept.files.items after.kept.files.items
-  pub names : (after.kept.names_await ≡ before.kept.names_await) ⊎ ((after.kept.names_await ≡ false) × answered SettledAll before.kept.directory)
+  pub names : (after.kept.names_await ≡ before.kept.names_await) ⊎ ((after.kept.names_await ≡ false) × answered SettleAll before.kept.directory)

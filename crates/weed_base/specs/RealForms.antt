@@ -3,6 +3,7 @@ use Rattle.std.specs.Prelude.{◌≡◌, ◌-◌, ◌^◌, true, None, Result, I
 use Rattle.weed_base.specs.Told.{HasCause}
 use Rattle.weed_base.specs.Files.{BothTold}
 use Rattle.weed_base.specs.Images.{Elapses}
+use Rattle.weed_base.specs.System.{Act, ActsOnce}
 use Rattle.weed_base.specs.declared.real.folder.Folder.{Folder}
 use Rattle.weed_base.specs.declared.real.dir_disk.DirDisk.{DirDisk}
 
@@ -14,9 +15,9 @@ IsBrokenOff disk = (disk.folder ≡ None) × (disk.broken ≡ true)
 abbrev pub Ticks : {R F : Type 0} → DirDisk R F → DirDisk R F → Type 0
 Ticks old new = Elapses old.counts.made new.counts.made (λ _ _. ⊥) (λ _ _. ⊥) (λ _. ⊥)
 
--- After a sync or an attach that failed a call fails, and so does each later one.
+-- After a sync or an attach that failed a call fails, and so does each later one. It changes nothing.
 abbrev pub StaysBroken : {R F T E : Type 0} → DirDisk R F → DirDisk R F → Result T E → Type 0
-StaysBroken old new result = IsBrokenOff old → IsErr result × IsBrokenOff new
+StaysBroken old new result = IsBrokenOff old → IsErr result × IsBrokenOff new × (new.system ≡ old.system)
 
 -- A call, but for an attach or a listing: it counted its fault, fails at the last number, and turned nowhere.
 pub record IsCalled {R F T E : Type 0} (old new : DirDisk R F) (result : Result T E) : Type 0 where
@@ -27,11 +28,11 @@ pub record IsCalled {R F T E : Type 0} (old new : DirDisk R F) (result : Result 
   pub attachment : new.attachment ≡ old.attachment
 
 -- A directory is attached before and after, and they are so.
-abbrev pub BothAttached : {R F : Type 0} → (Folder R F → Folder R F → Type 0) → DirDisk R F → DirDisk R F → Type 0
+abbrev pub BothAttached : {R F : Type 0} → (Folder F → Folder F → Type 0) → DirDisk R F → DirDisk R F → Type 0
 BothAttached P old new = IsSomeAnd old.folder (λ before. IsSomeAnd new.folder (P before))
 
 -- The same, or none is attached before and after. No sync or attach failed between.
-abbrev pub BothOrNone : {R F : Type 0} → (Folder R F → Folder R F → Type 0) → DirDisk R F → DirDisk R F → Type 0
+abbrev pub BothOrNone : {R F : Type 0} → (Folder F → Folder F → Type 0) → DirDisk R F → DirDisk R F → Type 0
 BothOrNone P old new = BothTold P old.folder new.folder × (new.broken ≡ old.broken)
 
 -- What is attached stays as it is.
@@ -41,3 +42,7 @@ StaysAttached old new = (new.folder ≡ old.folder) × (new.broken ≡ old.broke
 -- What is attached stays for this reason, and is let go for any other.
 abbrev pub BreaksOffUnless : {R F : Type 0} → Type 0 → DirDisk R F → DirDisk R F → Type 0
 BreaksOffUnless Reason old new = (Reason → StaysAttached old new) × (¬ Reason → IsBrokenOff new)
+
+-- One such act of the directory that is attached was asked of the system, or none.
+abbrev pub ActsOnceAttached : {R F : Type 0} → (R → R → Act F → Type 0) → (Folder F → Act F → Type 0) → DirDisk R F → DirDisk R F → Type 0
+ActsOnceAttached one_act May old new = ActsOnce one_act (λ act. IsSomeAnd old.folder (λ folder. May folder act)) old.system new.system

@@ -4,11 +4,11 @@ ghost use Rattle.std.proofs.lemmas.Option.{none-some};
 ghost use Rattle.weed_base.specs.Attachment.{Attaches, unattached};
 ghost use Rattle.weed_base.specs.Told.{raised, HasCause, IsCauseOf};
 ghost use Rattle.weed_base.specs.Files.{ReadsAt};
-ghost use Rattle.weed_base.specs.System.{Wrote, CutTo, Missed};
+ghost use Rattle.weed_base.specs.System.{Write, CutTo, Missed, RemoveFile, RenameFile, ActsOnly, IsSettling, IsOpening};
 ghost use Rattle.weed_base.specs.Awaiting.{Awaiting};
-ghost use Rattle.weed_base.specs.Folder.{OfFile, OfFileOrMissed, IsListing, IsOpenedFolder, IsSameFolder, KeepsFolder, MarksNoMore, HasMade, HasRemoved, HasRenamed, NamesMayHaveChanged, SettlesFiles, IsSettledWhole, path_of};
+ghost use Rattle.weed_base.specs.Folder.{OfFile, OfFileOrMissed, IsCallOf, IsMaking, IsListing, IsOpenedFolder, IsSameFolder, KeepsFolder, MarksNoMore, HasMade, HasRemoved, HasRenamed, NamesMayHaveChanged, SettlesFiles, IsSettledWhole, path_of};
 ghost use Rattle.weed_base.specs.declared.real.folder.Folder.{Folder};
-ghost use Rattle.weed_base.specs.RealForms.{IsBrokenOff, IsCalled, Ticks, StaysBroken, StaysAttached, BreaksOffUnless, BothAttached, BothOrNone};
+ghost use Rattle.weed_base.specs.RealForms.{IsBrokenOff, IsCalled, Ticks, StaysBroken, StaysAttached, BreaksOffUnless, ActsOnceAttached, BothAttached, BothOrNone};
 ghost use Rattle.weed_base.specs.declared.real.kept.Awaits.TheVariants.{Data, Everything};
 
 use crate::attachment::Attachment;
@@ -56,13 +56,13 @@ impl Counts {
 #[derive(Drop)]
 pub struct DirDisk<R, F = File> {
     system: R,
-    folder: Option<Folder<R, F>>,
+    folder: Option<Folder<F>>,
     broken: bool,
     counts: Counts,
     attachment: Attachment,
 }
 
-impl<F: SystemFile + Drop, R: System<File = F> + AllocGlobal + Clone + Drop> DirDisk<R, F> {
+impl<F: SystemFile + Drop, R: System<File = F> + AllocGlobal + Drop> DirDisk<R, F> {
     /// A disk that is attached to no directory yet.
     pub fn new(system: R) -> DirDisk<R, F>
         ensures { result ≡ record { system = system; folder = None; broken = false; counts = record { made = 0; faults = 0 }; attachment = unattached } }
@@ -89,30 +89,42 @@ impl<F: SystemFile + Drop, R: System<File = F> + AllocGlobal + Clone + Drop> Dir
     /// Lets the directory go, and takes no other.
     fn break_off(&mut self)
         ensures broken { IsBrokenOff self.new }
-        ensures rest { (self.new.counts ≡ self.old.counts) × (self.new.attachment ≡ self.old.attachment) }
+        ensures rest { (self.new.counts ≡ self.old.counts) × (self.new.attachment ≡ self.old.attachment) × (self.new.system ≡ self.old.system) }
     {
         self.folder = None;
         self.broken = true;
     }
 
-    /// Settles the directory that is attached, and opens another.
-    fn open(&mut self, place: &[u8]) -> io::Result<Folder<R, F>>
-        ensures broken { IsBrokenOff self.old → IsErr result }
-        ensures opened { IfOk result (IsOpenedFolder R.answered F.answered place.now) }
-        ensures left { OnOk result (BothOrNone (λ before after. SettlesFiles F.answered before after × IsSettledWhole after) self.old self.new) }
+    /// Settles the directory that is attached.
+    fn settle(&mut self) -> io::Result<()>
+        ensures settled { OnOk result (BothOrNone (λ before after. SettlesFiles R.file_answered before after × IsSettledWhole after) self.old self.new) }
         ensures rest { (self.new.counts ≡ self.old.counts) × (self.new.attachment ≡ self.old.attachment) }
+        ensures acts { ActsOnly R.one_act IsSettling self.old.system self.new.system }
+    {
+        match &mut self.folder {
+            Some(folder) => folder.sync(&mut self.system),
+            None => Ok(()),
+        }
+    }
+
+    /// Settles the directory that is attached, and opens another.
+    fn open(&mut self, place: &[u8]) -> io::Result<Folder<F>>
+        ensures broken { IsBrokenOff self.old → IsErr result }
+        ensures opened { IfOk result (IsOpenedFolder R.answered R.file_answered place.now) }
+        ensures left { OnOk result (BothOrNone (λ before after. SettlesFiles R.file_answered before after × IsSettledWhole after) self.old self.new) }
+        ensures rest { (self.new.counts ≡ self.old.counts) × (self.new.attachment ≡ self.old.attachment) }
+        ensures acts { ActsOnly R.one_act (IsOpening place.now) self.old.system self.new.system }
+        ensures none { IsBrokenOff self.old → self.new.system ≡ self.old.system }
     {
         if self.broken {
             return Err(io::ErrorKind::NotConnected.into());
         }
-        if let Some(folder) = &mut self.folder {
-            folder.sync()?;
-        }
-        Folder::open(self.system.clone()?, place)
+        self.settle()?;
+        Folder::open(&mut self.system, place)
     }
 }
 
-impl<F: SystemFile + Drop, R: System<File = F> + AllocGlobal + Clone + Drop> Disk
+impl<F: SystemFile + Drop, R: System<File = F> + AllocGlobal + Drop> Disk
     for DirDisk<R, F> {
     const MARKS_ONLY: bool = false;
 
@@ -156,10 +168,11 @@ impl<F: SystemFile + Drop, R: System<File = F> + AllocGlobal + Clone + Drop> Dis
         ensures breaks { StaysBroken self.old self.new result }
         ensures cause { HasCause self.old.counts.faults self.new.counts.faults result }
         ensures attached { Attaches place self.old.counts.made self.old.attachment self.new.attachment result }
-        ensures settled { OnOk result (IfSome self.old.folder (λ before. (after : Folder R F) × (SettlesFiles F.answered before after × IsSettledWhole after))) }
-        ensures opened { OnOk result (IsSomeAnd self.new.folder (IsOpenedFolder R.answered F.answered place)) }
+        ensures settled { OnOk result (IfSome self.old.folder (λ before. (after : Folder F) × (SettlesFiles R.file_answered before after × IsSettledWhole after))) }
+        ensures opened { OnOk result (IsSomeAnd self.new.folder (IsOpenedFolder R.answered R.file_answered place)) }
         ensures whole { OnOk result (self.new.broken ≡ self.old.broken) }
         ensures broken { OnErr result (BreaksOffUnless (self.old.counts.made ≡ 2 ^ 64 - 1) self.old self.new) }
+        ensures acts { ActsOnly R.one_act (IsOpening place) self.old.system self.new.system }
     {
         let tick = self.counts.made;
         self.counts.begin()?;
@@ -185,6 +198,7 @@ impl<F: SystemFile + Drop, R: System<File = F> + AllocGlobal + Clone + Drop> Dis
         ensures keeps { StaysAttached self.old self.new }
         ensures names { IfOk result (λ names. IsSomeAnd self.old.folder (IsListing R.answered names)) }
         ensures detached { self.old.folder ≡ None → IsErrOf result NamesFault.Failed }
+        ensures looks { self.new.system ≡ self.old.system }
     {
         if self.counts.begin().is_err() {
             return Err(NamesFault::Failed);
@@ -193,7 +207,7 @@ impl<F: SystemFile + Drop, R: System<File = F> + AllocGlobal + Clone + Drop> Dis
             self.counts.faults.raise();
             return Err(NamesFault::Failed);
         };
-        match folder.names(alloc) {
+        match folder.names(&self.system, alloc) {
             Ok(names) => Ok(Items::of(names)),
             Err(error) if error.kind() == io::ErrorKind::OutOfMemory => Err(NamesFault::Memory),
             Err(_) => {
@@ -207,14 +221,15 @@ impl<F: SystemFile + Drop, R: System<File = F> + AllocGlobal + Clone + Drop> Dis
         ensures called { IsCalled self.old self.new result }
         ensures keeps { BothOrNone (KeepsFolder R.answered) self.old self.new }
         ensures more { BothOrNone (MarksNoMore (λ _ _. ⊥) ⊥) self.old self.new }
-        ensures size { IfOk result (λ size. IsSomeAnd self.old.folder (λ folder. MatchOption size (R.answered (Missed (path_of folder name.now)) folder.system)
+        ensures size { IfOk result (λ size. IsSomeAnd self.old.folder (λ folder. MatchOption size (R.answered (Missed (path_of folder name.now)))
             (λ size. OfFile R.answered (λ file. IfSome (F.bytes file) (λ told. size ≡ length told)) name.now folder))) }
+        ensures looks { self.new.system ≡ self.old.system }
     {
         self.counts.begin()?;
         let Some(folder) = &mut self.folder else {
             return Err(self.counts.faults.raise());
         };
-        let answer = folder.size(name);
+        let answer = folder.size(&self.system, name);
         self.counts.faults.note(answer)
     }
 
@@ -225,12 +240,13 @@ impl<F: SystemFile + Drop, R: System<File = F> + AllocGlobal + Clone + Drop> Dis
         ensures bound { IfOk result (λ count. count ≤ length room.new) }
         ensures read { IfOk result (λ count. IsSomeAnd self.old.folder
             (OfFileOrMissed R.answered (count ≡ 0) (λ file. IfSome (F.bytes file) (λ told. ReadsAt told at count room.new)) name.now)) }
+        ensures looks { self.new.system ≡ self.old.system }
     {
         self.counts.begin()?;
         let Some(folder) = &mut self.folder else {
             return Err(self.counts.faults.raise());
         };
-        let answer = folder.read_at(name, at, room);
+        let answer = folder.read_at(&self.system, name, at, room);
         self.counts.faults.note(answer)
     }
 
@@ -240,13 +256,14 @@ impl<F: SystemFile + Drop, R: System<File = F> + AllocGlobal + Clone + Drop> Dis
         ensures more { BothOrNone (MarksNoMore (λ other mark. (name.now ≡ other) × (mark ≡ Data)) ⊥) self.old self.new }
         ensures bound { OnOk result (at + length piece.now < 2 ^ 63) }
         ensures written { OnOk result (BothAttached (λ before after. OfFile R.answered
-            (λ file. F.answered (Wrote at piece.now) file × Awaiting name.now file Data after.kept.files.items) name.now before) self.old self.new) }
+            (λ file. R.file_answered (Write at piece.now) file × Awaiting name.now file Data after.kept.files.items) name.now before) self.old self.new) }
+        ensures acts { ActsOnceAttached R.one_act (λ folder act. IsCallOf R.answered (Write at piece.now) name.now folder act × (at + length piece.now < 2 ^ 63)) self.old self.new }
     {
         self.counts.begin()?;
         let Some(folder) = &mut self.folder else {
             return Err(self.counts.faults.raise());
         };
-        let answer = folder.write_at(name, at, piece);
+        let answer = folder.write_at(&mut self.system, name, at, piece);
         self.counts.faults.note(answer)
     }
 
@@ -255,27 +272,29 @@ impl<F: SystemFile + Drop, R: System<File = F> + AllocGlobal + Clone + Drop> Dis
         ensures keeps { BothOrNone (KeepsFolder R.answered) self.old self.new }
         ensures more { BothOrNone (MarksNoMore (λ other _. name.now ≡ other) ⊥) self.old self.new }
         ensures cut { OnOk result (BothAttached (λ before after. OfFile R.answered
-            (λ file. F.answered (CutTo to) file × Awaiting name.now file Everything after.kept.files.items) name.now before) self.old self.new) }
+            (λ file. R.file_answered (CutTo to) file × Awaiting name.now file Everything after.kept.files.items) name.now before) self.old self.new) }
+        ensures acts { ActsOnceAttached R.one_act (IsCallOf R.answered (CutTo to) name.now) self.old self.new }
     {
         self.counts.begin()?;
         let Some(folder) = &mut self.folder else {
             return Err(self.counts.faults.raise());
         };
-        let answer = folder.cut(name, to);
+        let answer = folder.cut(&mut self.system, name, to);
         self.counts.faults.note(answer)
     }
 
     fn make(&mut self, name: &FileName) -> Result<(), Failed>
         ensures called { IsCalled self.old self.new result }
         ensures keeps { BothOrNone (KeepsFolder R.answered) self.old self.new }
-        ensures more { BothOrNone (λ before after. MarksNoMore (λ other _. name.now ≡ other) (R.answered (Missed (path_of before name.now)) before.system) before after) self.old self.new }
-        ensures made { OnOk result (BothAttached (HasMade R.answered F.answered name.now) self.old self.new) }
+        ensures more { BothOrNone (λ before after. MarksNoMore (λ other _. name.now ≡ other) (R.answered (Missed (path_of before name.now))) before after) self.old self.new }
+        ensures made { OnOk result (BothAttached (HasMade R.answered R.file_answered name.now) self.old self.new) }
+        ensures acts { ActsOnceAttached R.one_act (IsMaking R.answered name.now) self.old self.new }
     {
         self.counts.begin()?;
         let Some(folder) = &mut self.folder else {
             return Err(self.counts.faults.raise());
         };
-        let answer = folder.make(name);
+        let answer = folder.make(&mut self.system, name);
         self.counts.faults.note(answer)
     }
 
@@ -284,12 +303,13 @@ impl<F: SystemFile + Drop, R: System<File = F> + AllocGlobal + Clone + Drop> Dis
         ensures same { BothOrNone IsSameFolder self.old self.new }
         ensures removed { OnOk result (BothAttached (HasRemoved R.answered name.now) self.old self.new) }
         ensures failed { OnErr result ((self.new.folder ≡ self.old.folder) ⊎ BothAttached NamesMayHaveChanged self.old self.new) }
+        ensures acts { ActsOnceAttached R.one_act (λ folder act. act ≡ RemoveFile (path_of folder name.now)) self.old self.new }
     {
         self.counts.begin()?;
         let Some(folder) = &mut self.folder else {
             return Err(self.counts.faults.raise());
         };
-        let answer = folder.remove(name);
+        let answer = folder.remove(&mut self.system, name);
         self.counts.faults.note(answer)
     }
 
@@ -298,26 +318,28 @@ impl<F: SystemFile + Drop, R: System<File = F> + AllocGlobal + Clone + Drop> Dis
         ensures same { BothOrNone IsSameFolder self.old self.new }
         ensures renamed { OnOk result (BothAttached (HasRenamed R.answered from.now to.now) self.old self.new) }
         ensures failed { OnErr result ((self.new.folder ≡ self.old.folder) ⊎ BothAttached NamesMayHaveChanged self.old self.new) }
+        ensures acts { ActsOnceAttached R.one_act (λ folder act. act ≡ RenameFile (path_of folder from.now) (path_of folder to.now)) self.old self.new }
     {
         self.counts.begin()?;
         let Some(folder) = &mut self.folder else {
             return Err(self.counts.faults.raise());
         };
-        let answer = folder.rename(from, to);
+        let answer = folder.rename(&mut self.system, from, to);
         self.counts.faults.note(answer)
     }
 
     fn sync(&mut self) -> Result<(), Failed>
         ensures called { IsCalled self.old self.new result }
-        ensures settled { OnOk result (BothAttached (λ before after. IsSameFolder before after × SettlesFiles F.answered before after × IsSettledWhole after) self.old self.new) }
+        ensures settled { OnOk result (BothAttached (λ before after. IsSameFolder before after × SettlesFiles R.file_answered before after × IsSettledWhole after) self.old self.new) }
         ensures whole { OnOk result (self.new.broken ≡ self.old.broken) }
         ensures broken { OnErr result (BreaksOffUnless ((self.old.counts.made ≡ 2 ^ 64 - 1) ⊎ (self.old.folder ≡ None)) self.old self.new) }
+        ensures acts { ActsOnly R.one_act IsSettling self.old.system self.new.system }
     {
         self.counts.begin()?;
         let Some(folder) = &mut self.folder else {
             return Err(self.counts.faults.raise());
         };
-        let answer = folder.sync();
+        let answer = folder.sync(&mut self.system);
         if answer.is_err() {
             self.break_off();
         }
@@ -325,7 +347,7 @@ impl<F: SystemFile + Drop, R: System<File = F> + AllocGlobal + Clone + Drop> Dis
     }
 }
 
-impl<F: SystemFile + Drop, R: System<File = F> + AllocGlobal + Clone + Drop> WholeDisk
+impl<F: SystemFile + Drop, R: System<File = F> + AllocGlobal + Drop> WholeDisk
     for DirDisk<R, F> {
     ghost whole = { refl };
 }

@@ -2,9 +2,9 @@
 ghost use Rattle.std.specs.Prelude.{◌≡◌, ◌≤◌, ◌<◌, ◌+◌, ◌^◌, ◌⊎◌, length, take, drop, true, string_bytes, IfOk, IfSome, OnOk, OnErr, MatchOption};
 ghost use Rattle.std.specs.List.{All};
 ghost use Rattle.weed_base.specs.Files.{ReadsAt, ReadsSome};
-ghost use Rattle.weed_base.specs.System.{Wrote, CutTo, MadeDirectory, Opened, Missed, Made, path_in, directory_above};
-ghost use Rattle.weed_base.specs.Awaiting.{Covers, Awaiting, AwaitsNoMore, IsNamedAt, IsFileAt};
-ghost use Rattle.weed_base.specs.Folder.{IsOpenAt, OfFile, OfFileOrMissed, IsSettledAt, IsListing, IsOpenedFolder, IsSameFolder, KeepsFolder, MarksNoMore, HasMade, HasRemoved, HasRenamed, NamesMayHaveChanged, SettlesFiles, IsSettledWhole, path_of};
+ghost use Rattle.weed_base.specs.System.{Write, CutTo, MadeDirectory, Missed, Made, ActsOnce, ActsOnly, IsSettling, IsOpening, MakeFile, RemoveFile, RenameFile, path_in, directory_above};
+ghost use Rattle.weed_base.specs.Awaiting.{Covers, Awaiting, StillAwaits, AwaitsNoMore, IsNamedAt, IsFileAt, IsOpenAs};
+ghost use Rattle.weed_base.specs.Folder.{IsOpenAt, OfFile, OfFileOrMissed, IsCallOf, IsMaking, IsSettledAt, IsListing, OpensOne, IsOpenedFolder, IsSameFolder, KeepsFolder, MarksNoMore, HasMade, HasRemoved, HasRenamed, NamesMayHaveChanged, SettlesFiles, IsSettledWhole, path_of};
 
 use crate::file_name::FileName;
 use crate::real::kept::{Awaits, KeptFile, KeptFiles, MAX_END};
@@ -69,17 +69,26 @@ fn path_in(alloc: Global, path: &str, name: &FileName) -> io::Result<String>
 }
 
 /// Settles what lies at a path.
-fn settle_at<F: SystemFile + Drop, R: System<File = F>>(system: &R, path: &str) -> io::Result<()>
-    ensures { OnOk result (IsSettledAt (λ call. R.answered call system.now) F.answered path.now) }
+fn settle_at<F: SystemFile + Drop, R: System<File = F>>(
+    system: &mut R,
+    path: &str,
+) -> io::Result<()>
+    ensures settled { OnOk result (IsSettledAt R.answered R.file_answered path.now) }
+    ensures acts { ActsOnce R.one_act IsSettling system.old system.new }
 {
-    system.open_to_settle(path)?.settle_all()
+    let file = system.open_to_settle(path)?;
+    system.settle_all(&file)
 }
 
 /// Makes the directory where it isn't there, and settles its name: an earlier process may have been stopped
 /// before it did.
-fn make_folder<F: SystemFile + Drop, R: System<File = F>>(system: &R, path: &str) -> io::Result<()>
-    ensures made { OnOk result (R.answered (MadeDirectory path.now) system.now) }
-    ensures above { OnOk result (IsSettledAt (λ call. R.answered call system.now) F.answered (directory_above path.now)) }
+fn make_folder<F: SystemFile + Drop, R: System<File = F>>(
+    system: &mut R,
+    path: &str,
+) -> io::Result<()>
+    ensures made { OnOk result (R.answered (MadeDirectory path.now)) }
+    ensures above { OnOk result (IsSettledAt R.answered R.file_answered (directory_above path.now)) }
+    ensures acts { ActsOnly R.one_act (IsOpening path.now) system.old system.new }
 {
     system.make_directory(path)?;
     settle_at(system, directory_above(path))
@@ -87,11 +96,12 @@ fn make_folder<F: SystemFile + Drop, R: System<File = F>>(system: &R, path: &str
 
 /// Settles each file of these names in the directory.
 fn settle_each<F: SystemFile + Drop, R: System<File = F> + AllocGlobal>(
-    system: &R,
+    system: &mut R,
     directory: &str,
     names: &[FileName],
 ) -> io::Result<()>
-    ensures { OnOk result (All (λ name. IsSettledAt (λ call. R.answered call system.now) F.answered (path_in directory.now name)) names.now) }
+    ensures settled { OnOk result (All (λ name. IsSettledAt R.answered R.file_answered (path_in directory.now name)) names.now) }
+    ensures acts { ActsOnly R.one_act IsSettling system.old system.new }
 {
     for name in names {
         let path = path_in(system.alloc(), directory, name)?;
@@ -102,49 +112,55 @@ fn settle_each<F: SystemFile + Drop, R: System<File = F> + AllocGlobal>(
 
 /// An attached directory.
 #[derive(Drop)]
-pub(crate) struct Folder<R, F> {
-    system: R,
+pub(crate) struct Folder<F> {
     path: String,
     kept: KeptFiles<F>,
 }
 
-impl<F: SystemFile + Drop, R: System<File = F> + AllocGlobal + Drop> Folder<R, F> {
+impl<F: SystemFile + Drop> Folder<F> {
     /// Opens a directory, which is made where it isn't there, and settles it, since an earlier process may
     /// have left it unsettled.
-    pub(crate) fn open(system: R, path: &[u8]) -> io::Result<Folder<R, F>>
-        ensures { IfOk result (IsOpenedFolder R.answered F.answered path.now) }
+    pub(crate) fn open<R: System<File = F> + AllocGlobal>(
+        system: &mut R,
+        path: &[u8],
+    ) -> io::Result<Folder<F>>
+        ensures opened { IfOk result (IsOpenedFolder R.answered R.file_answered path.now) }
+        ensures acts { ActsOnly R.one_act (IsOpening path.now) system.old system.new }
     {
         let path = text_of(path)?;
-        make_folder(&system, path)?;
-        let mut directory = system.open_to_settle(path)?;
+        make_folder(system, path)?;
+        let directory = system.open_to_settle(path)?;
         let names = system.list(system.alloc(), path)?;
-        settle_each(&system, path, names.as_slice())?;
-        directory.settle_all()?;
+        settle_each(system, path, names.as_slice())?;
+        system.settle_all(&directory)?;
         Ok(Folder {
             path: String::from_str(system.alloc(), path)?,
             kept: KeptFiles::new(system.alloc(), directory),
-            system,
         })
     }
 
-    fn path_of(&self, name: &FileName) -> io::Result<String>
+    fn path_of(&self, alloc: Global, name: &FileName) -> io::Result<String>
         ensures { IfOk result (λ path. string_bytes path ≡ path_of self.now name.now) }
     {
-        path_in(self.system.alloc(), self.path.as_str(), name)
+        path_in(alloc, self.path.as_str(), name)
     }
 
     /// The names of files, in byte order. Other names are left out.
-    pub(crate) fn names(&self, alloc: Global) -> io::Result<Vec<FileName>>
+    pub(crate) fn names<R: System<File = F>>(
+        &self,
+        system: &R,
+        alloc: Global,
+    ) -> io::Result<Vec<FileName>>
         ensures { IfOk result (λ names. IsListing R.answered names.items self.now) }
     {
-        let mut names = self.system.list(alloc, self.path.as_str())?;
+        let mut names = system.list(alloc, self.path.as_str())?;
         names.sort_unstable();
         Ok(names)
     }
 
     /// Notes that a name may be made or taken away.
     fn note_names(&mut self)
-        ensures keeps { KeepsFolder R.answered self.old self.new }
+        ensures same { IsSameFolder self.old self.new }
         ensures noted { NamesMayHaveChanged self.old self.new }
     {
         self.kept.note_names();
@@ -152,41 +168,51 @@ impl<F: SystemFile + Drop, R: System<File = F> + AllocGlobal + Drop> Folder<R, F
 
     /// Keeps a file that was opened or made at the path of its name, and answers its place.
     fn keep(&mut self, name: &FileName, file: F, awaits: Awaits) -> io::Result<usize>
-        requires { R.answered (Opened (path_of self.old name.now) file) self.old.system ⊎ R.answered (Made (path_of self.old name.now) file) self.old.system }
         ensures kept { IfOk result (λ place. IsNamedAt name.now place self.new.kept.files.items × IsFileAt place self.new.kept.files.items file) }
         ensures marked { OnOk result (Awaiting name.now file awaits self.new.kept.files.items) }
-        ensures keeps { KeepsFolder R.answered self.old self.new }
+        ensures same { IsSameFolder self.old self.new }
+        ensures only { OpensOne name.now file self.old self.new }
+        ensures still { StillAwaits self.old.kept.files.items self.new.kept.files.items }
         ensures more { MarksNoMore (λ other mark. (name.now ≡ other) × Covers awaits mark) ⊥ self.old self.new }
+        ensures names { self.new.kept.names_await ≡ self.old.kept.names_await }
     {
         self.kept.keep(KeptFile::new(name.copy(), file, awaits))
     }
 
     /// The place of the open file of that name, where it is there.
-    fn place_of(&mut self, name: &FileName) -> io::Result<Option<usize>>
+    fn place_of<R: System<File = F> + AllocGlobal>(
+        &mut self,
+        system: &R,
+        name: &FileName,
+    ) -> io::Result<Option<usize>>
         ensures place { IfOk result (λ found. IfSome found (λ place. IsNamedAt name.now place self.new.kept.files.items)) }
-        ensures opened { IfOk result (λ found. MatchOption found (R.answered (Missed (path_of self.old name.now)) self.old.system)
-            (IsOpenAt (λ call. R.answered call self.old.system) (path_of self.old name.now) name.now self.old.kept.files.items self.new.kept.files.items)) }
+        ensures opened { IfOk result (λ found. MatchOption found (R.answered (Missed (path_of self.old name.now)))
+            (IsOpenAt R.answered (path_of self.old name.now) name.now self.old.kept.files.items self.new.kept.files.items)) }
         ensures keeps { KeepsFolder R.answered self.old self.new }
         ensures more { MarksNoMore (λ _ _. ⊥) ⊥ self.old self.new }
     {
         if let Some(place) = self.kept.place_of(name) {
             return Ok(Some(place));
         }
-        let path = self.path_of(name)?;
-        let Some(file) = self.system.open_existing(path.as_str())? else {
+        let path = self.path_of(system.alloc(), name)?;
+        let Some(file) = system.open_existing(path.as_str())? else {
             return Ok(None);
         };
         Ok(Some(self.keep(name, file, Awaits::Nothing)?))
     }
 
     /// A file's length in bytes, where it is there.
-    pub(crate) fn size(&mut self, name: &FileName) -> io::Result<Option<u64>>
-        ensures size { IfOk result (λ size. MatchOption size (R.answered (Missed (path_of self.old name.now)) self.old.system)
+    pub(crate) fn size<R: System<File = F> + AllocGlobal>(
+        &mut self,
+        system: &R,
+        name: &FileName,
+    ) -> io::Result<Option<u64>>
+        ensures size { IfOk result (λ size. MatchOption size (R.answered (Missed (path_of self.old name.now)))
             (λ size. OfFile R.answered (λ file. IfSome (F.bytes file) (λ told. size ≡ length told)) name.now self.old)) }
         ensures keeps { KeepsFolder R.answered self.old self.new }
         ensures more { MarksNoMore (λ _ _. ⊥) ⊥ self.old self.new }
     {
-        match self.place_of(name)? {
+        match self.place_of(system, name)? {
             Some(place) => Ok(Some(self.kept.file(place).size()?)),
             None => Ok(None),
         }
@@ -194,92 +220,132 @@ impl<F: SystemFile + Drop, R: System<File = F> + AllocGlobal + Drop> Folder<R, F
 
     /// Puts the file's bytes from `at` on into the front of `room`, as many as there are and fit, and answers
     /// how many; none where the file isn't there.
-    pub(crate) fn read_at(&mut self, name: &FileName, at: u64, room: &mut [u8]) -> io::Result<usize>
+    pub(crate) fn read_at<R: System<File = F> + AllocGlobal>(
+        &mut self,
+        system: &R,
+        name: &FileName,
+        at: u64,
+        room: &mut [u8],
+    ) -> io::Result<usize>
         ensures bound { IfOk result (λ count. count ≤ length room.new) }
         ensures read { IfOk result (λ count. OfFileOrMissed R.answered (count ≡ 0) (λ file. IfSome (F.bytes file) (λ told. ReadsAt told at count room.new)) name.now self.old) }
         ensures keeps { KeepsFolder R.answered self.old self.new }
         ensures more { MarksNoMore (λ _ _. ⊥) ⊥ self.old self.new }
     {
-        match self.place_of(name)? {
+        match self.place_of(system, name)? {
             Some(place) => read_full(self.kept.file(place), at, room),
             None => Ok(0),
         }
     }
 
     /// Writes the piece over what is there, and past the end.
-    pub(crate) fn write_at(&mut self, name: &FileName, at: u64, piece: &[u8]) -> io::Result<()>
-        ensures written { OnOk result (OfFile R.answered (λ file. F.answered (Wrote at piece.now) file × Awaiting name.now file Awaits.Data self.new.kept.files.items) name.now self.old) }
+    pub(crate) fn write_at<R: System<File = F> + AllocGlobal>(
+        &mut self,
+        system: &mut R,
+        name: &FileName,
+        at: u64,
+        piece: &[u8],
+    ) -> io::Result<()>
+        ensures written { OnOk result (OfFile R.answered (λ file. R.file_answered (Write at piece.now) file × Awaiting name.now file Awaits.Data self.new.kept.files.items) name.now self.old) }
         ensures bound { OnOk result (at + length piece.now < 2 ^ 63) }
         ensures keeps { KeepsFolder R.answered self.old self.new }
         ensures more { MarksNoMore (λ other mark. (name.now ≡ other) × (mark ≡ Awaits.Data)) ⊥ self.old self.new }
+        ensures acts { ActsOnce R.one_act (λ act. IsCallOf R.answered (Write at piece.now) name.now self.old act × (at + length piece.now < 2 ^ 63)) system.old system.new }
     {
-        match self.place_of(name)? {
-            Some(place) => self.kept.write_at(place, at, piece),
+        match self.place_of(&*system, name)? {
+            Some(place) => self.kept.write_at(system, place, at, piece),
             None => Err(io::ErrorKind::NotFound.into()),
         }
     }
 
     /// Cuts a file to a length.
-    pub(crate) fn cut(&mut self, name: &FileName, to: u64) -> io::Result<()>
-        ensures cut { OnOk result (OfFile R.answered (λ file. F.answered (CutTo to) file × Awaiting name.now file Awaits.Everything self.new.kept.files.items) name.now self.old) }
+    pub(crate) fn cut<R: System<File = F> + AllocGlobal>(
+        &mut self,
+        system: &mut R,
+        name: &FileName,
+        to: u64,
+    ) -> io::Result<()>
+        ensures cut { OnOk result (OfFile R.answered (λ file. R.file_answered (CutTo to) file × Awaiting name.now file Awaits.Everything self.new.kept.files.items) name.now self.old) }
         ensures keeps { KeepsFolder R.answered self.old self.new }
         ensures more { MarksNoMore (λ other _. name.now ≡ other) ⊥ self.old self.new }
+        ensures acts { ActsOnce R.one_act (IsCallOf R.answered (CutTo to) name.now self.old) system.old system.new }
     {
-        match self.place_of(name)? {
-            Some(place) => self.kept.cut(place, to),
+        match self.place_of(&*system, name)? {
+            Some(place) => self.kept.cut(system, place, to),
             None => Err(io::ErrorKind::NotFound.into()),
         }
     }
 
     /// Makes a file that isn't there.
-    fn make_new(&mut self, name: &FileName) -> io::Result<()>
-        ensures made { OnOk result ((file : F) × R.answered (Made (path_of self.old name.now) file) self.old.system × Awaiting name.now file Awaits.Everything self.new.kept.files.items) }
+    fn make_new<R: System<File = F> + AllocGlobal>(
+        &mut self,
+        system: &mut R,
+        name: &FileName,
+    ) -> io::Result<()>
+        ensures made { OnOk result ((file : F) × R.answered (Made (path_of self.old name.now) file) × Awaiting name.now file Awaits.Everything self.new.kept.files.items) }
         ensures keeps { KeepsFolder R.answered self.old self.new }
         ensures more { AwaitsNoMore (λ other _. name.now ≡ other) self.old.kept.files.items self.new.kept.files.items }
         ensures names { self.new.kept.names_await ≡ true }
+        ensures acts { ActsOnce R.one_act (λ act. act ≡ MakeFile (path_of self.old name.now)) system.old system.new }
     {
         self.note_names();
-        let path = self.path_of(name)?;
-        let file = self.system.make_file(path.as_str())?;
+        let path = self.path_of(system.alloc(), name)?;
+        let file = system.make_file(path.as_str())?;
         self.keep(name, file, Awaits::Everything)?;
         Ok(())
     }
 
     /// Makes a file, or empties the one that is there.
-    pub(crate) fn make(&mut self, name: &FileName) -> io::Result<()>
-        ensures made { OnOk result (HasMade R.answered F.answered name.now self.old self.new) }
+    pub(crate) fn make<R: System<File = F> + AllocGlobal>(
+        &mut self,
+        system: &mut R,
+        name: &FileName,
+    ) -> io::Result<()>
+        ensures made { OnOk result (HasMade R.answered R.file_answered name.now self.old self.new) }
         ensures keeps { KeepsFolder R.answered self.old self.new }
-        ensures more { MarksNoMore (λ other _. name.now ≡ other) (R.answered (Missed (path_of self.old name.now)) self.old.system) self.old self.new }
+        ensures more { MarksNoMore (λ other _. name.now ≡ other) (R.answered (Missed (path_of self.old name.now))) self.old self.new }
+        ensures acts { ActsOnce R.one_act (IsMaking R.answered name.now self.old) system.old system.new }
     {
-        match self.place_of(name)? {
-            Some(place) => self.kept.cut(place, 0),
-            None => self.make_new(name),
+        match self.place_of(&*system, name)? {
+            Some(place) => self.kept.cut(system, place, 0),
+            None => self.make_new(system, name),
         }
     }
 
     /// Removes a file, where it is there.
-    pub(crate) fn remove(&mut self, name: &FileName) -> io::Result<()>
+    pub(crate) fn remove<R: System<File = F> + AllocGlobal>(
+        &mut self,
+        system: &mut R,
+        name: &FileName,
+    ) -> io::Result<()>
         ensures removed { OnOk result (HasRemoved R.answered name.now self.old self.new) }
         ensures failed { OnErr result (NamesMayHaveChanged self.old self.new) }
         ensures same { IsSameFolder self.old self.new }
+        ensures acts { ActsOnce R.one_act (λ act. act ≡ RemoveFile (path_of self.old name.now)) system.old system.new }
     {
         self.note_names();
-        let path = self.path_of(name)?;
-        self.system.remove_file(path.as_str())?;
+        let path = self.path_of(system.alloc(), name)?;
+        system.remove_file(path.as_str())?;
         self.kept.forget(name);
         Ok(())
     }
 
     /// Renames a file, which takes the place of what had the new name.
-    pub(crate) fn rename(&mut self, from: &FileName, to: &FileName) -> io::Result<()>
+    pub(crate) fn rename<R: System<File = F> + AllocGlobal>(
+        &mut self,
+        system: &mut R,
+        from: &FileName,
+        to: &FileName,
+    ) -> io::Result<()>
         ensures renamed { OnOk result (HasRenamed R.answered from.now to.now self.old self.new) }
         ensures failed { OnErr result (NamesMayHaveChanged self.old self.new) }
         ensures same { IsSameFolder self.old self.new }
+        ensures acts { ActsOnce R.one_act (λ act. act ≡ RenameFile (path_of self.old from.now) (path_of self.old to.now)) system.old system.new }
     {
         self.note_names();
-        let old = self.path_of(from)?;
-        let new = self.path_of(to)?;
-        self.system.rename_file(old.as_str(), new.as_str())?;
+        let old = self.path_of(system.alloc(), from)?;
+        let new = self.path_of(system.alloc(), to)?;
+        system.rename_file(old.as_str(), new.as_str())?;
         if from != to {
             self.kept.rename(from, to);
         }
@@ -287,11 +353,12 @@ impl<F: SystemFile + Drop, R: System<File = F> + AllocGlobal + Drop> Folder<R, F
     }
 
     /// Settles each file that was made, written or cut since the last sync, and the names.
-    pub(crate) fn sync(&mut self) -> io::Result<()>
-        ensures falls { SettlesFiles F.answered self.old self.new }
+    pub(crate) fn sync<R: System<File = F>>(&mut self, system: &mut R) -> io::Result<()>
+        ensures falls { SettlesFiles R.file_answered self.old self.new }
         ensures settled { OnOk result (IsSettledWhole self.new) }
         ensures same { IsSameFolder self.old self.new }
+        ensures acts { ActsOnly R.one_act IsSettling system.old system.new }
     {
-        self.kept.sync()
+        self.kept.sync(system)
     }
 }

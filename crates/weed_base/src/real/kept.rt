@@ -2,13 +2,13 @@
 ghost use Rattle.std.specs.Prelude.{◌≡◌, ◌≤◌, ◌<◌, ◌+◌, ◌^◌, ◌⊎◌, ℕ, List, [], length, true, false, IfOk, OnOk};
 ghost use Rattle.std.specs.List.{All, AllZip, position};
 ghost use Rattle.std.specs.Str.{bytes_eq};
-ghost use Rattle.weed_base.specs.System.{Wrote, CutTo, SettledAll};
+ghost use Rattle.weed_base.specs.System.{Write, CutTo, SettleAll, CallFile, ActsOnce, ActsOnly, IsSettling};
 ghost use Rattle.weed_base.specs.Awaiting.{Covers, Awaiting, StillAwaits, AwaitsNoMore, IsNamedAt, IsFileAt, IsOpenAs, OpensNone, FallsByAnswer, AwaitsSomething, AwaitsNothing, without, AreRenamed};
 ghost use Rattle.weed_base.specs.declared.real.kept.Awaits.{Awaits};
 ghost use Rattle.weed_base.specs.declared.real.kept.Awaits.TheVariants.{Nothing, Data, Everything};
 
 use crate::file_name::FileName;
-use crate::real::system::SystemFile;
+use crate::real::system::{System, SystemFile};
 use std::alloc::Global;
 use std::io;
 
@@ -45,14 +45,15 @@ impl<F: SystemFile + Drop> KeptFile<F> {
     }
 
     /// Settles what it awaits.
-    fn sync(&mut self) -> io::Result<()>
-        ensures mark { FallsByAnswer F.answered self.old self.new }
+    fn sync<R: System<File = F>>(&mut self, system: &mut R) -> io::Result<()>
+        ensures mark { FallsByAnswer R.file_answered self.old self.new }
         ensures settled { OnOk result (AwaitsNothing self.new) }
+        ensures acts { ActsOnce R.one_act IsSettling system.old system.new }
     {
         match self.awaits {
             Awaits::Nothing => return Ok(()),
-            Awaits::Data => self.file.settle_data()?,
-            Awaits::Everything => self.file.settle_all()?,
+            Awaits::Data => system.settle_data(&self.file)?,
+            Awaits::Everything => system.settle_all(&self.file)?,
         }
         self.awaits = Awaits::Nothing;
         Ok(())
@@ -60,14 +61,20 @@ impl<F: SystemFile + Drop> KeptFile<F> {
 
     /// Writes, and awaits a sync even where that failed. A write whose end would pass 2^63 - 1
     /// fails.
-    fn write_at(&mut self, at: u64, piece: &[u8]) -> io::Result<()>
+    fn write_at<R: System<File = F>>(
+        &mut self,
+        system: &mut R,
+        at: u64,
+        piece: &[u8],
+    ) -> io::Result<()>
         ensures name { self.new.name ≡ self.old.name }
         ensures still { Covers self.new.awaits self.old.awaits }
         ensures mark { (self.new.awaits ≡ self.old.awaits) ⊎ ((self.old.awaits ≡ Awaits.Nothing) × (self.new.awaits ≡ Awaits.Data)) }
         ensures marked { at + length piece.now < 2 ^ 63 → Covers self.new.awaits Awaits.Data }
         ensures fits { OnOk result (at + length piece.now < 2 ^ 63) }
         ensures file { self.new.file ≡ self.old.file }
-        ensures written { OnOk result (F.answered (Wrote at piece.now) self.old.file) }
+        ensures written { OnOk result (R.file_answered (Write at piece.now) self.old.file) }
+        ensures acts { ActsOnce R.one_act (λ act. (act ≡ CallFile self.old.file (Write at piece.now)) × (at + length piece.now < 2 ^ 63)) system.old system.new }
     {
         if piece.len() as u64 > MAX_END || at > MAX_END - piece.len() as u64 {
             return Err(io::ErrorKind::FileTooLarge.into());
@@ -75,28 +82,33 @@ impl<F: SystemFile + Drop> KeptFile<F> {
         if self.awaits == Awaits::Nothing {
             self.awaits = Awaits::Data;
         }
-        self.file.write_piece(at, piece)
+        system.write_piece(&self.file, at, piece)
     }
 
     /// Cuts, and awaits a sync even where that failed.
-    fn cut(&mut self, to: u64) -> io::Result<()>
+    fn cut<R: System<File = F>>(&mut self, system: &mut R, to: u64) -> io::Result<()>
         ensures name { self.new.name ≡ self.old.name }
         ensures marked { self.new.awaits ≡ Awaits.Everything }
         ensures file { self.new.file ≡ self.old.file }
-        ensures cut { OnOk result (F.answered (CutTo to) self.old.file) }
+        ensures cut { OnOk result (R.file_answered (CutTo to) self.old.file) }
+        ensures once { R.one_act system.old system.new (CallFile self.old.file (CutTo to)) }
     {
         self.awaits = Awaits::Everything;
-        self.file.cut(to)
+        system.cut(&self.file, to)
     }
 }
 
 /// Settles what each of them awaits, up to the first that fails.
-fn sync_each<F: SystemFile + Drop>(files: &mut [KeptFile<F>]) -> io::Result<()>
-    ensures marks { AllZip (FallsByAnswer F.answered) files.old files.new }
+fn sync_each<F: SystemFile + Drop, R: System<File = F>>(
+    system: &mut R,
+    files: &mut [KeptFile<F>],
+) -> io::Result<()>
+    ensures marks { AllZip (FallsByAnswer R.file_answered) files.old files.new }
     ensures settled { OnOk result (All AwaitsNothing files.new) }
+    ensures acts { ActsOnly R.one_act IsSettling system.old system.new }
 {
     for kept in files.iter_mut() {
-        kept.sync()?;
+        kept.sync(system)?;
     }
     Ok(())
 }
@@ -171,12 +183,20 @@ impl<F: SystemFile + Drop> KeptFiles<F> {
     }
 
     /// Writes to the file at that place.
-    pub(super) fn write_at(&mut self, place: usize, at: u64, piece: &[u8]) -> io::Result<()>
+    pub(super) fn write_at<R: System<File = F>>(
+        &mut self,
+        system: &mut R,
+        place: usize,
+        at: u64,
+        piece: &[u8],
+    ) -> io::Result<()>
         requires { place < length self.old.files.items }
         ensures fits { OnOk result (at + length piece.now < 2 ^ 63) }
         ensures marked { (name : List ℕ) (file : F) → IsNamedAt name place self.old.files.items → IsFileAt place self.old.files.items file
             → at + length piece.now < 2 ^ 63 → Awaiting name file Awaits.Data self.new.files.items }
-        ensures written { (file : F) → IsFileAt place self.old.files.items file → OnOk result (F.answered (Wrote at piece.now) file) }
+        ensures written { (file : F) → IsFileAt place self.old.files.items file → OnOk result (R.file_answered (Write at piece.now) file) }
+        ensures acts { (file : F) → IsFileAt place self.old.files.items file
+            → ActsOnce R.one_act (λ act. (act ≡ CallFile file (Write at piece.now)) × (at + length piece.now < 2 ^ 63)) system.old system.new }
         ensures still { StillAwaits self.old.files.items self.new.files.items }
         ensures only { OpensNone self.old.files.items self.new.files.items }
         ensures more { (name : List ℕ) → IsNamedAt name place self.old.files.items
@@ -184,15 +204,21 @@ impl<F: SystemFile + Drop> KeptFiles<F> {
         ensures names { self.new.names_await ≡ self.old.names_await }
         ensures directory { self.new.directory ≡ self.old.directory }
     {
-        self.files[place].write_at(at, piece)
+        self.files[place].write_at(system, at, piece)
     }
 
     /// Cuts the file at that place.
-    pub(super) fn cut(&mut self, place: usize, to: u64) -> io::Result<()>
+    pub(super) fn cut<R: System<File = F>>(
+        &mut self,
+        system: &mut R,
+        place: usize,
+        to: u64,
+    ) -> io::Result<()>
         requires { place < length self.old.files.items }
         ensures marked { (name : List ℕ) (file : F) → IsNamedAt name place self.old.files.items → IsFileAt place self.old.files.items file
             → Awaiting name file Awaits.Everything self.new.files.items }
-        ensures cut { (file : F) → IsFileAt place self.old.files.items file → OnOk result (F.answered (CutTo to) file) }
+        ensures cut { (file : F) → IsFileAt place self.old.files.items file → OnOk result (R.file_answered (CutTo to) file) }
+        ensures once { (file : F) → IsFileAt place self.old.files.items file → R.one_act system.old system.new (CallFile file (CutTo to)) }
         ensures still { StillAwaits self.old.files.items self.new.files.items }
         ensures only { OpensNone self.old.files.items self.new.files.items }
         ensures more { (name : List ℕ) → IsNamedAt name place self.old.files.items
@@ -200,7 +226,7 @@ impl<F: SystemFile + Drop> KeptFiles<F> {
         ensures names { self.new.names_await ≡ self.old.names_await }
         ensures directory { self.new.directory ≡ self.old.directory }
     {
-        self.files[place].cut(to)
+        self.files[place].cut(system, to)
     }
 
     /// Notes that a name may be made or taken away.
@@ -236,15 +262,16 @@ impl<F: SystemFile + Drop> KeptFiles<F> {
     }
 
     /// Settles each file that was made, written or cut since the last sync, and the names.
-    pub(super) fn sync(&mut self) -> io::Result<()>
-        ensures marks { AllZip (FallsByAnswer F.answered) self.old.files.items self.new.files.items }
-        ensures names { (self.new.names_await ≡ self.old.names_await) ⊎ ((self.new.names_await ≡ false) × F.answered SettledAll self.old.directory) }
+    pub(super) fn sync<R: System<File = F>>(&mut self, system: &mut R) -> io::Result<()>
+        ensures marks { AllZip (FallsByAnswer R.file_answered) self.old.files.items self.new.files.items }
+        ensures names { (self.new.names_await ≡ self.old.names_await) ⊎ ((self.new.names_await ≡ false) × R.file_answered SettleAll self.old.directory) }
         ensures settled { OnOk result (All AwaitsNothing self.new.files.items × (self.new.names_await ≡ false)) }
         ensures directory { self.new.directory ≡ self.old.directory }
+        ensures acts { ActsOnly R.one_act IsSettling system.old system.new }
     {
-        sync_each(&mut self.files)?;
+        sync_each(system, &mut self.files)?;
         if self.names_await {
-            self.directory.settle_all()?;
+            system.settle_all(&self.directory)?;
             self.names_await = false;
         }
         Ok(())

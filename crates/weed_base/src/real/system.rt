@@ -3,7 +3,7 @@
 //! call or a few of std each.
 ghost use Rattle.std.specs.Prelude.{◌≡◌, ◌≤◌, ◌<◌, ◌^◌, ℕ, List, ⊤, length, Option, None, IfOk, IfSome, OnOk, MatchOption};
 ghost use Rattle.weed_base.specs.Files.{ReadsSome};
-ghost use Rattle.weed_base.specs.System.{FileCall, Wrote, CutTo, SettledData, SettledAll, PathCall, MadeDirectory, OpenedToSettle, Opened, Missed, Made, Removed, Renamed, Listed};
+ghost use Rattle.weed_base.specs.System.{Act, CallFile, MakeDirectory, MakeFile, RemoveFile, RenameFile, FileCall, Write, CutTo, SettleData, SettleAll, PathCall, MadeDirectory, OpenedToSettle, Opened, Missed, Made, Removed, Renamed, Listed};
 
 use crate::file_name::FileName;
 use std::alloc::{AllocGlobal, Global};
@@ -12,11 +12,8 @@ use std::os::unix::fs::FileExt;
 use std::rt::Files;
 use std::{fs, io};
 
-/// An open file of the system, or a directory. Which one it is no call changes.
+/// An open file of the system, or a directory. Here it is only looked at.
 pub trait SystemFile {
-    /// That call of it answered Ok.
-    ghost answered: { FileCall → Self → Type 0 };
-
     /// Its bytes, where told: of a file that is only read.
     ghost bytes: { Self → Option (List ℕ) };
 
@@ -32,31 +29,9 @@ pub trait SystemFile {
     fn read_some(&self, at: u64, room: &mut [u8]) -> io::Result<usize>
         ensures bound { IfOk result (λ count. count ≤ length room.new) }
         ensures read { IfOk result (λ count. IfSome (bytes self.now) (λ told. ReadsSome told at count room.new)) };
-
-    /// Writes all of the piece, from byte `at` on.
-    fn write_piece(&mut self, at: u64, piece: &[u8]) -> io::Result<()>
-        ensures same { self.new ≡ self.old }
-        ensures written { OnOk result (answered (Wrote at piece.now) self.old) };
-
-    /// Cuts the file to that length in bytes.
-    fn cut(&mut self, to: u64) -> io::Result<()>
-        ensures same { self.new ≡ self.old }
-        ensures cut { OnOk result (answered (CutTo to) self.old) };
-
-    /// Settles the bytes, and the length.
-    fn settle_data(&mut self) -> io::Result<()>
-        ensures same { self.new ≡ self.old }
-        ensures settled { OnOk result (answered SettledData self.old) };
-
-    /// Settles all of the file, and of a directory the names.
-    fn settle_all(&mut self) -> io::Result<()>
-        ensures same { self.new ≡ self.old }
-        ensures settled { OnOk result (answered SettledAll self.old) };
 }
 
 impl SystemFile for File {
-    ghost answered = { λ _ _. ⊤ };
-
     ghost bytes = { λ _. None };
 
     ghost short = { λ _. tt };
@@ -68,68 +43,86 @@ impl SystemFile for File {
     fn read_some(&self, at: u64, room: &mut [u8]) -> io::Result<usize> {
         self.read_at(room, at)
     }
-
-    fn write_piece(&mut self, at: u64, piece: &[u8]) -> io::Result<()> {
-        self.write_all_at(piece, at)
-    }
-
-    fn cut(&mut self, to: u64) -> io::Result<()> {
-        self.set_len(to)
-    }
-
-    fn settle_data(&mut self) -> io::Result<()> {
-        self.sync_data()
-    }
-
-    fn settle_all(&mut self) -> io::Result<()> {
-        self.sync_all()
-    }
 }
 
-/// The system's calls by paths.
+/// The system's calls by paths, and those that change a file. Each of the latter is one act, whatever it answers.
 pub trait System {
     /// What it opens.
     type File: SystemFile + Drop;
 
-    /// That call of it answered so.
-    ghost answered: { PathCall Self.File → Self → Type 0 };
+    /// That it answered so to a call by a path.
+    ghost answered: { PathCall Self.File → Type 0 };
+
+    /// That it answered Ok to a call of an open file.
+    ghost file_answered: { FileCall → Self.File → Type 0 };
+
+    /// That one act led from here to there. Generic code has this from the call alone.
+    ghost one_act: { Self → Self → Act Self.File → Type 0 };
 
     /// Makes a directory where nothing is there.
-    fn make_directory(&self, path: &str) -> io::Result<()>
-        ensures { OnOk result (answered (MadeDirectory path.now) self.now) };
+    fn make_directory(&mut self, path: &str) -> io::Result<()>
+        ensures made { OnOk result (answered (MadeDirectory path.now)) }
+        ensures once { one_act self.old self.new (MakeDirectory path.now) };
 
     /// Opens a directory or a file to be settled.
     fn open_to_settle(&self, path: &str) -> io::Result<Self::File>
-        ensures { IfOk result (λ file. answered (OpenedToSettle path.now file) self.now) };
+        ensures { IfOk result (λ file. answered (OpenedToSettle path.now file)) };
 
     /// Opens a file to be read and written; `None` where nothing is there.
     fn open_existing(&self, path: &str) -> io::Result<Option<Self::File>>
-        ensures { IfOk result (λ found. MatchOption found (answered (Missed path.now) self.now) (λ file. answered (Opened path.now file) self.now)) };
+        ensures { IfOk result (λ found. MatchOption found (answered (Missed path.now)) (λ file. answered (Opened path.now file))) };
 
     /// Makes a file that isn't there.
-    fn make_file(&self, path: &str) -> io::Result<Self::File>
-        ensures { IfOk result (λ file. answered (Made path.now file) self.now) };
+    fn make_file(&mut self, path: &str) -> io::Result<Self::File>
+        ensures made { IfOk result (λ file. answered (Made path.now file)) }
+        ensures once { one_act self.old self.new (MakeFile path.now) };
 
     /// Removes a file, where it is there.
-    fn remove_file(&self, path: &str) -> io::Result<()>
-        ensures { OnOk result (answered (Removed path.now) self.now) };
+    fn remove_file(&mut self, path: &str) -> io::Result<()>
+        ensures removed { OnOk result (answered (Removed path.now)) }
+        ensures once { one_act self.old self.new (RemoveFile path.now) };
 
     /// Renames a file, which takes the place of what had the new name.
-    fn rename_file(&self, from: &str, to: &str) -> io::Result<()>
-        ensures { OnOk result (answered (Renamed from.now to.now) self.now) };
+    fn rename_file(&mut self, from: &str, to: &str) -> io::Result<()>
+        ensures renamed { OnOk result (answered (Renamed from.now to.now)) }
+        ensures once { one_act self.old self.new (RenameFile from.now to.now) };
 
     /// The names of files in a directory, in any order. Other names are left out.
     fn list(&self, alloc: Global, path: &str) -> io::Result<Vec<FileName>>
-        ensures { IfOk result (λ names. answered (Listed path.now names.items) self.now) };
+        ensures { IfOk result (λ names. answered (Listed path.now names.items)) };
+
+    /// Writes all of the piece to the file, from byte `at` on.
+    fn write_piece(&mut self, file: &Self::File, at: u64, piece: &[u8]) -> io::Result<()>
+        ensures written { OnOk result (file_answered (Write at piece.now) file.now) }
+        ensures once { one_act self.old self.new (CallFile file.now (Write at piece.now)) };
+
+    /// Cuts the file to that length in bytes.
+    fn cut(&mut self, file: &Self::File, to: u64) -> io::Result<()>
+        ensures cut { OnOk result (file_answered (CutTo to) file.now) }
+        ensures once { one_act self.old self.new (CallFile file.now (CutTo to)) };
+
+    /// Settles the file's bytes, and its length.
+    fn settle_data(&mut self, file: &Self::File) -> io::Result<()>
+        ensures settled { OnOk result (file_answered SettleData file.now) }
+        ensures once { one_act self.old self.new (CallFile file.now SettleData) };
+
+    /// Settles all of the file, and of a directory the names.
+    fn settle_all(&mut self, file: &Self::File) -> io::Result<()>
+        ensures settled { OnOk result (file_answered SettleAll file.now) }
+        ensures once { one_act self.old self.new (CallFile file.now SettleAll) };
 }
 
 impl<R: Files<File = File> + AllocGlobal + Clone + Drop> System for R {
     type File = File;
 
-    ghost answered = { λ _ _. ⊤ };
+    ghost answered = { λ _. ⊤ };
 
-    fn make_directory(&self, path: &str) -> io::Result<()> {
-        match fs::create_dir(self, path) {
+    ghost file_answered = { λ _ _. ⊤ };
+
+    ghost one_act = { λ _ _ _. ⊤ };
+
+    fn make_directory(&mut self, path: &str) -> io::Result<()> {
+        match fs::create_dir(&*self, path) {
             Err(error) if error.kind() != io::ErrorKind::AlreadyExists => Err(error),
             _ => Ok(()),
         }
@@ -147,19 +140,19 @@ impl<R: Files<File = File> + AllocGlobal + Clone + Drop> System for R {
         }
     }
 
-    fn make_file(&self, path: &str) -> io::Result<File> {
-        File::create_new(self, path)
+    fn make_file(&mut self, path: &str) -> io::Result<File> {
+        File::create_new(&*self, path)
     }
 
-    fn remove_file(&self, path: &str) -> io::Result<()> {
-        match fs::remove_file(self, path) {
+    fn remove_file(&mut self, path: &str) -> io::Result<()> {
+        match fs::remove_file(&*self, path) {
             Err(error) if error.kind() != io::ErrorKind::NotFound => Err(error),
             _ => Ok(()),
         }
     }
 
-    fn rename_file(&self, from: &str, to: &str) -> io::Result<()> {
-        fs::rename(self, from, to)
+    fn rename_file(&mut self, from: &str, to: &str) -> io::Result<()> {
+        fs::rename(&*self, from, to)
     }
 
     fn list(&self, alloc: Global, path: &str) -> io::Result<Vec<FileName>> {
@@ -173,5 +166,21 @@ impl<R: Files<File = File> + AllocGlobal + Clone + Drop> System for R {
             }
         }
         Ok(names)
+    }
+
+    fn write_piece(&mut self, file: &File, at: u64, piece: &[u8]) -> io::Result<()> {
+        file.write_all_at(piece, at)
+    }
+
+    fn cut(&mut self, file: &File, to: u64) -> io::Result<()> {
+        file.set_len(to)
+    }
+
+    fn settle_data(&mut self, file: &File) -> io::Result<()> {
+        file.sync_data()
+    }
+
+    fn settle_all(&mut self, file: &File) -> io::Result<()> {
+        file.sync_all()
     }
 }

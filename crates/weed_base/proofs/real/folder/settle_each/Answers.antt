@@ -2,15 +2,22 @@ use Rattle.std.proofs.Common.{ℕ, List, subst, ◌∙◌, inl, inr}
 use Rattle.weed_base.specs.System.{path_in}
 use Rattle.weed_base.specs.Folder.{IsSettledAt}
 use Rattle.weed_base.proofs.ListLemmas.{same_or_other, below_other}
+use Rattle.weed_base.proofs.ActLemmas.{acts_more}
 use Rattle.weed_base.proofs.FolderLemmas.{get_or_is}
 use Rattle.weed_base.proofs.real.folder.settle_each.Goals as goal
 
 pub loop-name-preserved : goal.loop-name-preserved
-loop-name-preserved g c = λ k d below.
-    let settled : List ℕ → Type 0 = λ path. IsSettledAt (λ call. g.R.System.answered call c.args.system.now) g.F.SystemFile.answered path in
-    elim (same_or_other k c.loop-name.name-index) [
-      | inl here ↦
-          let first = get_or_is c.args.names.now c.loop-name.name-index k c.name-item.result d c.loop-name-test.true here c.name-item.is in
-          subst (λ name. settled (path_in c.args.directory.now name)) first (subst settled (c.as_str.ensures.value ∙ c.in_ok-path.ensures) c.in_ok-settle_at.ensures)
-      | inr other ↦ c.loop-name.invariant k d (below_other k c.loop-name.name-index below other)
-    ]
+loop-name-preserved g c = (
+  λ k d below.
+      let settled : List ℕ → Type 0 = λ path. IsSettledAt g.R.System.answered g.R.System.file_answered path in
+      elim (same_or_other k c.loop-name.name-index) [
+        | inl here ↦
+            let first = get_or_is c.args.names.now c.loop-name.name-index k c.name-item.result d c.loop-name-test.true here c.name-item.is in
+            subst (λ name. settled (path_in c.args.directory.now name)) first (subst settled (c.as_str.ensures.value ∙ c.in_ok-path.ensures) c.in_ok-settle_at.ensures.settled)
+        | inr other ↦ c.loop-name.invariant.0 k d (below_other k c.loop-name.name-index below other)
+      ],
+  acts_more g.R.System.one_act c.loop-name.invariant.1 c.settle_at.ensures.acts,
+)
+
+pub returns-in_err-settle_at-clause-acts : goal.returns-in_err-settle_at-clause-acts
+returns-in_err-settle_at-clause-acts g c = acts_more g.R.System.one_act c.loop-name.invariant.1 c.settle_at.ensures.acts

@@ -1,4 +1,5 @@
 use Rattle.std.proofs.Common.{◌≡◌, ◌<◌, ◌≤◌, ℕ, get_or}
+use Rattle.weed_base.specs.System.{ActsOnly, IsSettling}
 use Rattle.weed_base.specs.Awaiting.{FallsByAnswer, AwaitsNothing}
 use Rattle.weed_base.specs.declared.real.kept.KeptFile.{KeptFile}
 use Rattle.weed_base.proofs.ListLemmas.{EachPair}
@@ -6,6 +7,7 @@ use Rattle.weed_base.proofs.real.kept.sync_each.Given as goal
 
 abbrev pub invariant-loop-kept : goal.invariant-loop-kept
 invariant-loop-kept g l =
-    EachPair (FallsByAnswer g.F.SystemFile.answered) l.initial.files l.files
+    EachPair (FallsByAnswer g.R.System.file_answered) l.initial.files l.files
     × ((k : ℕ) (d : KeptFile g.row.F.Denot) → k < l.kept-index → AwaitsNothing (get_or l.files k d))
     × ((k : ℕ) (d : KeptFile g.row.F.Denot) → l.kept-index ≤ k → get_or l.files k d ≡ get_or l.initial.files k d)
+    × ActsOnly g.R.System.one_act IsSettling l.initial.system l.system

@@ -4,4 +4,4 @@ use Rattle.weed_base.proofs.real.dir_disk.DirDiskDisk.attach.Goals as goal
 
 pub returns-in-Ok-clause-settled : goal.returns-in-Ok-clause-settled
 returns-in-Ok-clause-settled g c =
-    both_some (λ before after. SettlesFiles g.F.SystemFile.answered before after × IsSettledWhole after) c.args.self.now.folder c.open.new.self.folder c.in-Ok.ensures.left.0
+    both_some (λ before after. SettlesFiles g.R.System.file_answered before after × IsSettledWhole after) c.args.self.now.folder c.open.new.self.folder c.in-Ok.ensures.left.0

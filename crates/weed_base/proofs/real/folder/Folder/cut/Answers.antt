@@ -1,18 +1,18 @@
-use Rattle.std.proofs.Common.{◌∙◌, subst, inl}
+use Rattle.std.proofs.Common.{◌∙◌, subst, inl, inr, refl}
 use Rattle.std.specs.Prelude.{IfSome}
-use Rattle.weed_base.specs.System.{CutTo}
+use Rattle.weed_base.specs.System.{CutTo, CallFile}
 use Rattle.weed_base.specs.Awaiting.{Awaiting, IsNamedAt}
 use Rattle.weed_base.specs.Folder.{path_of}
 use Rattle.weed_base.specs.declared.real.kept.Awaits.TheVariants.{Everything}
 use Rattle.weed_base.proofs.AwaitingLemmas.{on_ok}
-use Rattle.weed_base.proofs.FolderLemmas.{at_found, of_placed, keeps_along, keeps_by, opens_none, marks_along, marks_none}
+use Rattle.weed_base.proofs.FolderLemmas.{at_found, of_place, of_placed, keeps_along, keeps_by, opens_none, marks_along, marks_none}
 use Rattle.weed_base.proofs.real.folder.Folder.cut.Goals as goal
 
 pub returns-in-Some-clause-cut : goal.returns-in-Some-clause-cut
 returns-in-Some-clause-cut g c =
     let named = subst (λ found. IfSome found (λ place. IsNamedAt c.args.name.now place c.place_of.new.self.kept.files.items)) c.in-Some.is c.in_ok-place.ensures.place in
-    of_placed (λ call. g.R.System.answered call c.args.self.now.system) (path_of c.args.self.now c.args.name.now) _ _ _ c.in-Some.place c.cut.result
-    (λ file. g.F.SystemFile.answered (CutTo c.args.to) file × Awaiting c.args.name.now file Everything c.cut.new.self.files.items)
+    of_placed g.R.System.answered (path_of c.args.self.now c.args.name.now) _ _ _ c.in-Some.place c.cut.result
+    (λ file. g.R.System.file_answered (CutTo c.args.to) file × Awaiting c.args.name.now file Everything c.cut.new.self.files.items)
     (at_found _ _ _ _ c.in-Some.is c.in_ok-place.ensures.opened)
     (λ file at. on_ok c.cut.result (λ answered. (answered, c.cut.ensures.marked c.args.name.now file named at)) (c.cut.ensures.cut file at))
 
@@ -32,3 +32,9 @@ pub returns-in-Some-clause-more : goal.returns-in-Some-clause-more
 returns-in-Some-clause-more g c =
     let named = subst (λ found. IfSome found (λ place. IsNamedAt c.args.name.now place c.place_of.new.self.kept.files.items)) c.in-Some.is c.in_ok-place.ensures.place in
     marks_along c.place_of.ensures.more (record { files = c.cut.ensures.more c.args.name.now named; names = inl c.cut.ensures.names })
+
+pub returns-in-Some-clause-acts : goal.returns-in-Some-clause-acts
+returns-in-Some-clause-acts g c =
+    of_place g.R.System.answered (path_of c.args.self.now c.args.name.now) _ _ _ c.in-Some.place (λ file. g.R.System.one_act _ _ (CallFile file (CutTo c.args.to)))
+    (at_found _ _ _ _ c.in-Some.is c.in_ok-place.ensures.opened) c.cut.ensures.once
+    (λ file asked once. inr (CallFile file (CutTo c.args.to), (file, asked, refl), once))

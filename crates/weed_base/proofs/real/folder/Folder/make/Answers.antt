@@ -1,19 +1,19 @@
-use Rattle.std.proofs.Common.{◌∙◌, inl, inr, subst, rules}
+use Rattle.std.proofs.Common.{◌∙◌, inl, inr, refl, subst, rules}
 use Rattle.std.specs.Prelude.{IfSome}
-use Rattle.weed_base.specs.System.{CutTo}
+use Rattle.weed_base.specs.System.{CutTo, CallFile}
 use Rattle.weed_base.specs.Awaiting.{Awaiting, IsNamedAt}
 use Rattle.weed_base.specs.declared.real.kept.Awaits.TheVariants.{Everything}
 use Rattle.weed_base.proofs.AwaitingLemmas.{on_ok}
 use Rattle.weed_base.specs.Folder.{path_of}
-use Rattle.weed_base.proofs.FolderLemmas.{at_found, of_placed, keeps_along, keeps_by, opens_none, marks_along, marks_none}
+use Rattle.weed_base.proofs.FolderLemmas.{at_found, of_place, of_placed, keeps_along, keeps_by, opens_none, marks_along, marks_none}
 use Rattle.weed_base.proofs.real.folder.Folder.make.Goals as goal
 
 pub returns-in-Some-clause-made : goal.returns-in-Some-clause-made
 returns-in-Some-clause-made g c =
     let named = subst (λ found. IfSome found (λ place. IsNamedAt c.args.name.now place c.place_of.new.self.kept.files.items)) c.in-Some.is c.in_ok-place.ensures.place in
     on_ok c.cut.result (λ emptied. inl emptied)
-    (of_placed (λ call. g.R.System.answered call c.args.self.now.system) (path_of c.args.self.now c.args.name.now) _ _ _ c.in-Some.place c.cut.result
-    (λ file. g.F.SystemFile.answered (CutTo 0) file × Awaiting c.args.name.now file Everything c.cut.new.self.files.items)
+    (of_placed g.R.System.answered (path_of c.args.self.now c.args.name.now) _ _ _ c.in-Some.place c.cut.result
+    (λ file. g.R.System.file_answered (CutTo 0) file × Awaiting c.args.name.now file Everything c.cut.new.self.files.items)
     (at_found _ _ _ _ c.in-Some.is c.in_ok-place.ensures.opened)
     (λ file at. on_ok c.cut.result (λ answered. (answered, c.cut.ensures.marked c.args.name.now file named at)) (c.cut.ensures.cut file at)))
 
@@ -34,3 +34,9 @@ returns-in-Some-clause-more g c =
 pub returns-in-None-clause-more : goal.returns-in-None-clause-more
 returns-in-None-clause-more g c =
     marks_along c.place_of.ensures.more (record { files = c.make_new.ensures.more; names = inr (search rules) })
+
+pub returns-in-Some-clause-acts : goal.returns-in-Some-clause-acts
+returns-in-Some-clause-acts g c =
+    of_place g.R.System.answered (path_of c.args.self.now c.args.name.now) _ _ _ c.in-Some.place (λ file. g.R.System.one_act _ _ (CallFile file (CutTo 0)))
+    (at_found _ _ _ _ c.in-Some.is c.in_ok-place.ensures.opened) c.cut.ensures.once
+    (λ file asked once. inr (CallFile file (CutTo 0), inl (file, asked, refl), once))

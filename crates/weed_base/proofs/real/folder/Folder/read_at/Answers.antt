@@ -9,5 +9,5 @@ use Rattle.weed_base.proofs.real.folder.Folder.read_at.Goals as goal
 pub returns-in-Some-clause-read : goal.returns-in-Some-clause-read
 returns-in-Some-clause-read g c =
     let named = subst (λ found. IfSome found (λ place. IsNamedAt c.args.name.now place c.place_of.new.self.kept.files.items)) c.in-Some.is c.in_ok-place.ensures.place in
-    if_ok c.read_full.result (λ count reads. inl (of_found (λ call. g.R.System.answered call c.args.self.now.system) (path_of c.args.self.now c.args.name.now) _ _ _ c.in-Some.place (λ file. IfSome (g.F.SystemFile.bytes file) (λ told. ReadsAt told c.args.at count c.read_full.new.room)) c.file.result.now named.0 c.file.ensures
+    if_ok c.read_full.result (λ count reads. inl (of_found g.R.System.answered (path_of c.args.self.now c.args.name.now) _ _ _ c.in-Some.place (λ file. IfSome (g.F.SystemFile.bytes file) (λ told. ReadsAt told c.args.at count c.read_full.new.room)) c.file.result.now named.0 c.file.ensures
     (at_found _ _ _ _ c.in-Some.is c.in_ok-place.ensures.opened) reads)) c.read_full.ensures.read

@@ -1,18 +1,19 @@
-use Rattle.std.proofs.Common.{◌∙◌, subst, inl}
+use Rattle.std.proofs.Common.{◌≡◌, ◌<◌, ◌+◌, ◌^◌, length, ◌∙◌, subst, inl}
 use Rattle.std.specs.Prelude.{IfSome}
-use Rattle.weed_base.specs.System.{Wrote}
+use Rattle.weed_base.specs.System.{Write, CallFile, ActsOnce}
 use Rattle.weed_base.specs.Awaiting.{Awaiting, IsNamedAt}
 use Rattle.weed_base.specs.Folder.{path_of}
 use Rattle.weed_base.specs.declared.real.kept.Awaits.TheVariants.{Data}
 use Rattle.weed_base.proofs.AwaitingLemmas.{both_ok}
-use Rattle.weed_base.proofs.FolderLemmas.{at_found, of_placed, keeps_along, keeps_by, opens_none, marks_along, marks_none}
+use Rattle.weed_base.proofs.ActLemmas.{acts_once}
+use Rattle.weed_base.proofs.FolderLemmas.{at_found, of_place, of_placed, keeps_along, keeps_by, opens_none, marks_along, marks_none}
 use Rattle.weed_base.proofs.real.folder.Folder.write_at.Goals as goal
 
 pub returns-in-Some-clause-written : goal.returns-in-Some-clause-written
 returns-in-Some-clause-written g c =
     let named = subst (λ found. IfSome found (λ place. IsNamedAt c.args.name.now place c.place_of.new.self.kept.files.items)) c.in-Some.is c.in_ok-place.ensures.place in
-    of_placed (λ call. g.R.System.answered call c.args.self.now.system) (path_of c.args.self.now c.args.name.now) _ _ _ c.in-Some.place c.write_at.result
-    (λ file. g.F.SystemFile.answered (Wrote c.args.at c.args.piece.now) file × Awaiting c.args.name.now file Data c.write_at.new.self.files.items)
+    of_placed g.R.System.answered (path_of c.args.self.now c.args.name.now) _ _ _ c.in-Some.place c.write_at.result
+    (λ file. g.R.System.file_answered (Write c.args.at c.args.piece.now) file × Awaiting c.args.name.now file Data c.write_at.new.self.files.items)
     (at_found _ _ _ _ c.in-Some.is c.in_ok-place.ensures.opened)
     (λ file at. both_ok _ _ _ c.write_at.result c.write_at.ensures.fits (c.write_at.ensures.written file at) (c.write_at.ensures.marked c.args.name.now file named at))
 
@@ -32,3 +33,9 @@ pub returns-in-Some-clause-more : goal.returns-in-Some-clause-more
 returns-in-Some-clause-more g c =
     let named = subst (λ found. IfSome found (λ place. IsNamedAt c.args.name.now place c.place_of.new.self.kept.files.items)) c.in-Some.is c.in_ok-place.ensures.place in
     marks_along c.place_of.ensures.more (record { files = c.write_at.ensures.more c.args.name.now named; names = inl c.write_at.ensures.names })
+
+pub returns-in-Some-clause-acts : goal.returns-in-Some-clause-acts
+returns-in-Some-clause-acts g c =
+    of_place g.R.System.answered (path_of c.args.self.now c.args.name.now) _ _ _ c.in-Some.place (λ file. ActsOnce g.R.System.one_act (λ act. (act ≡ CallFile file (Write c.args.at c.args.piece.now)) × (c.args.at + length c.args.piece.now < 2 ^ 63)) _ _)
+    (at_found _ _ _ _ c.in-Some.is c.in_ok-place.ensures.opened) c.write_at.ensures.acts
+    (λ file asked once. acts_once g.R.System.one_act (λ act is. ((file, asked, is.0), is.1)) once)

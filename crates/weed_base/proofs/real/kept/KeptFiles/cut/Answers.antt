@@ -12,7 +12,7 @@ returns-clause-marked g c = λ name file named at.
     (c.cut.ensures.file ∙ ap (λ kept. kept.file) c.index_mut.ensures.value ∙ at c.index_mut.result.now, (rw c.cut.ensures.marked tt))
 
 pub returns-clause-cut : goal.returns-clause-cut
-returns-clause-cut g c = λ file at. subst (λ (asked : g.row.F.Denot). OnOk c.cut.result (g.F.SystemFile.answered (CutTo c.args.to) asked)) (ap (λ kept. kept.file) c.index_mut.ensures.value ∙ at c.index_mut.result.now) c.cut.ensures.cut
+returns-clause-cut g c = λ file at. subst (λ (asked : g.row.F.Denot). OnOk c.cut.result (g.R.System.file_answered (CutTo c.args.to) asked)) (ap (λ kept. kept.file) c.index_mut.ensures.value ∙ at c.index_mut.result.now) c.cut.ensures.cut
 
 pub returns-clause-still : goal.returns-clause-still
 returns-clause-still g c = still_set _ _ c.index_mut.result.now c.cut.new.self c.requires c.index_mut.ensures.value c.cut.ensures.name c.cut.ensures.file (rw c.cut.ensures.marked (covers_all _))

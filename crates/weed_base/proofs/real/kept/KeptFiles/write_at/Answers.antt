@@ -1,5 +1,5 @@
 use Rattle.std.proofs.Common.{◌≡◌, sym, subst, ap, ◌∙◌, OnOk, inl, inr}
-use Rattle.weed_base.specs.System.{Wrote}
+use Rattle.weed_base.specs.System.{Write}
 use Rattle.weed_base.specs.Awaiting.{Covers}
 use Rattle.weed_base.specs.declared.real.kept.Awaits.TheVariants.{Data}
 use Rattle.weed_base.proofs.ListLemmas.{set_any}
@@ -12,7 +12,7 @@ returns-clause-marked g c = λ name file named at fits.
     (c.write_at.ensures.file ∙ ap (λ kept. kept.file) c.index_mut.ensures.value ∙ at c.index_mut.result.now, (c.write_at.ensures.marked fits))
 
 pub returns-clause-written : goal.returns-clause-written
-returns-clause-written g c = λ file at. subst (λ (asked : g.row.F.Denot). OnOk c.write_at.result (g.F.SystemFile.answered (Wrote c.args.at c.args.piece.now) asked)) (ap (λ kept. kept.file) c.index_mut.ensures.value ∙ at c.index_mut.result.now) c.write_at.ensures.written
+returns-clause-written g c = λ file at. subst (λ (asked : g.row.F.Denot). OnOk c.write_at.result (g.R.System.file_answered (Write c.args.at c.args.piece.now) asked)) (ap (λ kept. kept.file) c.index_mut.ensures.value ∙ at c.index_mut.result.now) c.write_at.ensures.written
 
 pub returns-clause-still : goal.returns-clause-still
 returns-clause-still g c = still_set _ _ c.index_mut.result.now c.write_at.new.self c.requires c.index_mut.ensures.value c.write_at.ensures.name c.write_at.ensures.file c.write_at.ensures.still

@@ -1,0 +1,9 @@
+use Rattle.weed_base.specs.System.{CallFile, SettleAll}
+use Rattle.weed_base.proofs.ActLemmas.{acts_one, acts_along}
+use Rattle.weed_base.proofs.real.kept.KeptFiles.sync.Goals as goal
+
+pub returns-in_err-settle_all-clause-acts : goal.returns-in_err-settle_all-clause-acts
+returns-in_err-settle_all-clause-acts g c = acts_along g.R.System.one_act c.sync_each.ensures.acts (acts_one g.R.System.one_act (CallFile _ SettleAll) tt c.settle_all.ensures.once)
+
+pub returns-in_ok-settle_all-clause-acts : goal.returns-in_ok-settle_all-clause-acts
+returns-in_ok-settle_all-clause-acts g c = acts_along g.R.System.one_act c.sync_each.ensures.acts (acts_one g.R.System.one_act (CallFile _ SettleAll) tt c.settle_all.ensures.once)
