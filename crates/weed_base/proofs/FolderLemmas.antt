@@ -3,14 +3,15 @@ use Rattle.std.proofs.Common.{◌≡◌, ◌⊎◌, ℕ, zero, suc, ◌<◌, Lis
 use Rattle.std.specs.List.{position}
 use Rattle.std.specs.Str.{bytes_eq}
 use Rattle.weed_base.specs.Files.{BothTold}
-use Rattle.weed_base.specs.System.{PathCall, Opened, Made, path_in}
+use Rattle.weed_base.specs.System.{Act, ActsOnly, IsSettling, FileCall, PathCall, Opened, Made, path_in}
 use Rattle.weed_base.specs.Awaiting.{Covers, Awaiting, IsNamedAt, IsFileAt, IsOpenAs, OpensNone, StillAwaits}
-use Rattle.weed_base.specs.Folder.{IsOpenFile, IsOpenAt, IsSameFolder, OpensByName, OpensOne, KeepsFolder, MarksNoMore, NamesMayHaveChanged, path_of}
+use Rattle.weed_base.specs.Folder.{IsOpenFile, IsOpenAt, MakesThenSettles, IsSameFolder, OpensByName, OpensOne, KeepsFolder, MarksNoMore, NamesMayHaveChanged, path_of}
 use Rattle.weed_base.specs.declared.real.kept.Awaits.{Awaits}
 use Rattle.weed_base.specs.declared.real.kept.Awaits.TheVariants.{Nothing}
 use Rattle.weed_base.specs.declared.real.kept.KeptFile.{KeptFile}
 use Rattle.weed_base.specs.declared.real.kept.KeptFiles.{KeptFiles}
 use Rattle.weed_base.specs.declared.real.folder.Folder.{Folder}
+use Rattle.weed_base.proofs.ActLemmas.{acts_along}
 use Rattle.weed_base.proofs.AwaitingLemmas.{named_at_position, covers_nothing}
 
 -- the path of a name stays where the directory does
@@ -111,6 +112,11 @@ keeps_noted {F} answered {before} {after} same noted = record {
   files = λ name file mark something found. subst (λ (files : List (KeptFile F)). Awaiting name file mark files) (sym noted.files) found;
   names = λ was. noted.names;
 }
+
+-- a directory was made and settled, and more was settled
+pub makes_along : {R F : Type 0} (one_act : R → R → Act F → Type 0) (by_path : PathCall F → Type 0) (by_file : FileCall → F → Type 0) {path place : List ℕ} {old middle new : R} → path ≡ place → MakesThenSettles one_act by_path by_file path old middle → ActsOnly one_act IsSettling middle new → MakesThenSettles one_act by_path by_file place old new
+makes_along one_act by_path by_file {old = old} {new = new} is (made, settled, above, act, answered, opened, whole, last, rest) behind =
+    subst (λ it. MakesThenSettles one_act by_path by_file it old new) is (made, settled, above, act, answered, opened, whole, last, acts_along one_act rest behind)
 
 -- the directory before and the one after, where one was attached
 pub both_some : {X : Type 0} (R : X → X → Type 0) (before after : Option X) → BothTold R before after → IfSome before (λ old. (new : X) × R old new)

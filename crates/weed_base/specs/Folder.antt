@@ -4,7 +4,7 @@ use Rattle.std.specs.Cmp.Lexicographic.{slice_cmp}
 use Rattle.std.specs.Ordering.{nat_cmp}
 use Rattle.std.specs.List.{All, AllZip}
 use Rattle.std.specs.List.Sorted.{IsSorted, IsPermutation}
-use Rattle.weed_base.specs.System.{FileCall, CutTo, SettleAll, Act, CallFile, MakeFile, PathCall, MadeDirectory, OpenedToSettle, Opened, Missed, Made, Removed, Renamed, Listed, path_in, directory_above}
+use Rattle.weed_base.specs.System.{FileCall, CutTo, SettleAll, Act, CallFile, MakeDirectory, MakeFile, ActsOnly, IsSettling, PathCall, MadeDirectory, OpenedToSettle, Opened, Missed, Made, Removed, Renamed, Listed, path_in, directory_above}
 use Rattle.weed_base.specs.Awaiting.{Awaiting, IsOpenAs, IsFileAt, StillAwaits, AwaitsNoMore, AwaitsNothing, FallsByAnswer, without, AreRenamed}
 use Rattle.weed_base.specs.declared.real.kept.Awaits.{Awaits}
 use Rattle.weed_base.specs.declared.real.kept.Awaits.TheVariants.{Everything}
@@ -44,6 +44,18 @@ IsMaking answered name folder act =
 abbrev pub IsSettledAt : {F : Type 0} → (PathCall F → Type 0) → (FileCall → F → Type 0) → List ℕ → Type 0
 IsSettledAt {F} by_path by_file path = (file : F) × by_path (OpenedToSettle path file) × by_file SettleAll file
 
+-- It was asked first for a directory to be made; then what lies above it was settled, and from then on nothing but settled.
+abbrev pub MakesThenSettles : {R F : Type 0} → (R → R → Act F → Type 0) → (PathCall F → Type 0) → (FileCall → F → Type 0) → List ℕ → R → R → Type 0
+MakesThenSettles {R} {F} one_act by_path by_file place old new =
+    (made : R) × (settled : R) × (above : F) × one_act old made (MakeDirectory place) × by_path (MadeDirectory place)
+    × by_path (OpenedToSettle (directory_above place) above) × by_file SettleAll above × one_act made settled (CallFile above SettleAll)
+    × ActsOnly one_act IsSettling settled new
+
+-- The same, once what was attached before was settled.
+abbrev pub SettlesMakesSettles : {R F : Type 0} → (R → R → Act F → Type 0) → (PathCall F → Type 0) → (FileCall → F → Type 0) → List ℕ → R → R → Type 0
+SettlesMakesSettles {R} one_act by_path by_file place old new =
+    (begun : R) × ActsOnly one_act IsSettling old begun × MakesThenSettles one_act by_path by_file place begun new
+
 -- These are the names that were listed in the directory, in byte order.
 abbrev pub IsListing : {F : Type 0} → (PathCall F → Type 0) → List (List ℕ) → Folder F → Type 0
 IsListing answered names folder =
@@ -81,12 +93,9 @@ pub record MarksNoMore {F : Type 0} (May : List ℕ → Awaits → Type 0) (Name
 abbrev pub IsSettledWhole : {F : Type 0} → Folder F → Type 0
 IsSettledWhole folder = All AwaitsNothing folder.kept.files.items × (folder.kept.names_await ≡ false)
 
--- A directory was opened: it was asked to be made, and it, its files and the one above it were settled whole. None of
--- its files stays open.
+-- A directory was opened: it and its files were settled whole. None of its files stays open.
 pub record IsOpenedFolder {F : Type 0} (by_path : PathCall F → Type 0) (by_file : FileCall → F → Type 0) (place : List ℕ) (folder : Folder F) : Type 0 where
   pub path : string_bytes folder.path ≡ place
-  pub made : by_path (MadeDirectory place)
-  pub above : IsSettledAt by_path by_file (directory_above place)
   pub directory : by_path (OpenedToSettle place folder.kept.directory)
   pub names : by_file SettleAll folder.kept.directory
   pub files : (listed : List (List ℕ)) × by_path (Listed place listed) × All (λ name. IsSettledAt by_path by_file (path_in place name)) listed

@@ -6,7 +6,7 @@ ghost use Rattle.weed_base.specs.Told.{raised, HasCause, IsCauseOf};
 ghost use Rattle.weed_base.specs.Files.{ReadsAt};
 ghost use Rattle.weed_base.specs.System.{Write, CutTo, Missed, RemoveFile, RenameFile, ActsOnly, IsSettling, IsOpening};
 ghost use Rattle.weed_base.specs.Awaiting.{Awaiting};
-ghost use Rattle.weed_base.specs.Folder.{OfFile, OfFileOrMissed, IsCallOf, IsMaking, IsListing, IsOpenedFolder, IsSameFolder, KeepsFolder, MarksNoMore, HasMade, HasRemoved, HasRenamed, NamesMayHaveChanged, SettlesFiles, IsSettledWhole, path_of};
+ghost use Rattle.weed_base.specs.Folder.{OfFile, OfFileOrMissed, IsCallOf, IsMaking, SettlesMakesSettles, IsListing, IsOpenedFolder, IsSameFolder, KeepsFolder, MarksNoMore, HasMade, HasRemoved, HasRenamed, NamesMayHaveChanged, SettlesFiles, IsSettledWhole, path_of};
 ghost use Rattle.weed_base.specs.declared.real.folder.Folder.{Folder};
 ghost use Rattle.weed_base.specs.RealForms.{IsBrokenOff, IsCalled, Ticks, StaysBroken, StaysAttached, BreaksOffUnless, ActsOnceAttached, BothAttached, BothOrNone};
 ghost use Rattle.weed_base.specs.declared.real.kept.Awaits.TheVariants.{Data, Everything};
@@ -111,6 +111,7 @@ impl<F: SystemFile + Drop, R: System<File = F> + AllocGlobal + Drop> DirDisk<R, 
     fn open(&mut self, place: &[u8]) -> io::Result<Folder<F>>
         ensures broken { IsBrokenOff self.old → IsErr result }
         ensures opened { IfOk result (IsOpenedFolder R.answered R.file_answered place.now) }
+        ensures made { OnOk result (SettlesMakesSettles R.one_act R.answered R.file_answered place.now self.old.system self.new.system) }
         ensures left { OnOk result (BothOrNone (λ before after. SettlesFiles R.file_answered before after × IsSettledWhole after) self.old self.new) }
         ensures rest { (self.new.counts ≡ self.old.counts) × (self.new.attachment ≡ self.old.attachment) }
         ensures acts { ActsOnly R.one_act (IsOpening place.now) self.old.system self.new.system }
@@ -170,6 +171,7 @@ impl<F: SystemFile + Drop, R: System<File = F> + AllocGlobal + Drop> Disk
         ensures attached { Attaches place self.old.counts.made self.old.attachment self.new.attachment result }
         ensures settled { OnOk result (IfSome self.old.folder (λ before. (after : Folder F) × (SettlesFiles R.file_answered before after × IsSettledWhole after))) }
         ensures opened { OnOk result (IsSomeAnd self.new.folder (IsOpenedFolder R.answered R.file_answered place)) }
+        ensures made { OnOk result (SettlesMakesSettles R.one_act R.answered R.file_answered place self.old.system self.new.system) }
         ensures whole { OnOk result (self.new.broken ≡ self.old.broken) }
         ensures broken { OnErr result (BreaksOffUnless (self.old.counts.made ≡ 2 ^ 64 - 1) self.old self.new) }
         ensures acts { ActsOnly R.one_act (IsOpening place) self.old.system self.new.system }

@@ -2,9 +2,9 @@
 ghost use Rattle.std.specs.Prelude.{◌≡◌, ◌≤◌, ◌<◌, ◌+◌, ◌^◌, ◌⊎◌, length, take, drop, true, string_bytes, IfOk, IfSome, OnOk, OnErr, MatchOption};
 ghost use Rattle.std.specs.List.{All};
 ghost use Rattle.weed_base.specs.Files.{ReadsAt, ReadsSome};
-ghost use Rattle.weed_base.specs.System.{Write, CutTo, MadeDirectory, Missed, Made, ActsOnce, ActsOnly, IsSettling, IsOpening, MakeFile, RemoveFile, RenameFile, path_in, directory_above};
+ghost use Rattle.weed_base.specs.System.{Write, CutTo, SettleAll, CallFile, OpenedToSettle, Missed, Made, ActsOnce, ActsOnly, IsSettling, IsOpening, MakeFile, RemoveFile, RenameFile, path_in, directory_above};
 ghost use Rattle.weed_base.specs.Awaiting.{Covers, Awaiting, StillAwaits, AwaitsNoMore, IsNamedAt, IsFileAt, IsOpenAs};
-ghost use Rattle.weed_base.specs.Folder.{IsOpenAt, OfFile, OfFileOrMissed, IsCallOf, IsMaking, IsSettledAt, IsListing, OpensOne, IsOpenedFolder, IsSameFolder, KeepsFolder, MarksNoMore, HasMade, HasRemoved, HasRenamed, NamesMayHaveChanged, SettlesFiles, IsSettledWhole, path_of};
+ghost use Rattle.weed_base.specs.Folder.{IsOpenAt, OfFile, OfFileOrMissed, IsCallOf, IsMaking, IsSettledAt, MakesThenSettles, IsListing, OpensOne, IsOpenedFolder, IsSameFolder, KeepsFolder, MarksNoMore, HasMade, HasRemoved, HasRenamed, NamesMayHaveChanged, SettlesFiles, IsSettledWhole, path_of};
 
 use crate::file_name::FileName;
 use crate::real::kept::{Awaits, KeptFile, KeptFiles, MAX_END};
@@ -73,7 +73,7 @@ fn settle_at<F: SystemFile + Drop, R: System<File = F>>(
     system: &mut R,
     path: &str,
 ) -> io::Result<()>
-    ensures settled { OnOk result (IsSettledAt R.answered R.file_answered path.now) }
+    ensures settled { OnOk result ((file : F) × R.answered (OpenedToSettle path.now file) × R.file_answered SettleAll file × R.one_act system.old system.new (CallFile file SettleAll)) }
     ensures acts { ActsOnce R.one_act IsSettling system.old system.new }
 {
     let file = system.open_to_settle(path)?;
@@ -86,8 +86,7 @@ fn make_folder<F: SystemFile + Drop, R: System<File = F>>(
     system: &mut R,
     path: &str,
 ) -> io::Result<()>
-    ensures made { OnOk result (R.answered (MadeDirectory path.now)) }
-    ensures above { OnOk result (IsSettledAt R.answered R.file_answered (directory_above path.now)) }
+    ensures made { OnOk result (MakesThenSettles R.one_act R.answered R.file_answered path.now system.old system.new) }
     ensures acts { ActsOnly R.one_act (IsOpening path.now) system.old system.new }
 {
     system.make_directory(path)?;
@@ -125,6 +124,7 @@ impl<F: SystemFile + Drop> Folder<F> {
         path: &[u8],
     ) -> io::Result<Folder<F>>
         ensures opened { IfOk result (IsOpenedFolder R.answered R.file_answered path.now) }
+        ensures made { OnOk result (MakesThenSettles R.one_act R.answered R.file_answered path.now system.old system.new) }
         ensures acts { ActsOnly R.one_act (IsOpening path.now) system.old system.new }
     {
         let path = text_of(path)?;

@@ -10,10 +10,11 @@ pub loop-name-preserved : goal.loop-name-preserved
 loop-name-preserved g c = (
   λ k d below.
       let settled : List ℕ → Type 0 = λ path. IsSettledAt g.R.System.answered g.R.System.file_answered path in
+      let done = c.in_ok-settle_at.ensures.settled in
       elim (same_or_other k c.loop-name.name-index) [
         | inl here ↦
             let first = get_or_is c.args.names.now c.loop-name.name-index k c.name-item.result d c.loop-name-test.true here c.name-item.is in
-            subst (λ name. settled (path_in c.args.directory.now name)) first (subst settled (c.as_str.ensures.value ∙ c.in_ok-path.ensures) c.in_ok-settle_at.ensures.settled)
+            subst (λ name. settled (path_in c.args.directory.now name)) first (subst settled (c.as_str.ensures.value ∙ c.in_ok-path.ensures) (done.0, done.1, done.2))
         | inr other ↦ c.loop-name.invariant.0 k d (below_other k c.loop-name.name-index below other)
       ],
   acts_more g.R.System.one_act c.loop-name.invariant.1 c.settle_at.ensures.acts,

@@ -1,7 +1,8 @@
 use Rattle.std.proofs.Common.{ℕ, List, ◌≡◌, inl, refl, subst, sym, ◌∙◌}
 use Rattle.std.specs.List.{All}
-use Rattle.weed_base.specs.System.{PathCall, MadeDirectory, OpenedToSettle, Listed, SettleAll, CallFile, path_in, directory_above}
+use Rattle.weed_base.specs.System.{PathCall, OpenedToSettle, Listed, SettleAll, CallFile, path_in}
 use Rattle.weed_base.specs.Folder.{IsSettledAt}
+use Rattle.weed_base.proofs.FolderLemmas.{makes_along}
 use Rattle.weed_base.proofs.ActLemmas.{acts_one, acts_along, acts_among, acts_at}
 use Rattle.weed_base.proofs.real.folder.Folder.open.Goals as goal
 
@@ -14,8 +15,6 @@ returns-clause-opened g c =
     let directory = c.in_ok-directory.directory in
     record {
       path = c.in_ok-from_str.ensures.ok ∙ is;
-      made = subst (λ (path : List ℕ). answered (MadeDirectory path)) is c.in_ok-make_folder.ensures.made;
-      above = subst (λ (path : List ℕ). settled (directory_above path)) is c.in_ok-make_folder.ensures.above;
       directory =
           subst (λ (it : g.row.F.Denot). answered (OpenedToSettle c.args.path.now it)) (sym c.new.ensures.directory)
           (subst (λ (path : List ℕ). answered (OpenedToSettle path directory)) is c.in_ok-directory.ensures);
@@ -52,3 +51,9 @@ returns-clause-acts g c =
     let one_act = g.R.System.one_act in
     acts_along one_act (acts_along one_act (acts_at one_act c.in_ok-path.ensures c.make_folder.ensures.acts) (acts_among one_act (λ act settling. inl settling) c.settle_each.ensures.acts))
     (acts_one one_act (CallFile _ SettleAll) (inl tt) c.settle_all.ensures.once)
+
+pub returns-clause-made : goal.returns-clause-made
+returns-clause-made g c =
+    let one_act = g.R.System.one_act in
+    makes_along one_act g.R.System.answered g.R.System.file_answered c.in_ok-path.ensures c.in_ok-make_folder.ensures.made
+    (acts_along one_act c.settle_each.ensures.acts (acts_one one_act (CallFile _ SettleAll) tt c.settle_all.ensures.once))
