@@ -1,5 +1,5 @@
 -- What keeps the marks of open files.
-use Rattle.std.proofs.Common.{◌≡◌, ◌≢◌, ◌⊎◌, ℕ, ◌+◌, ◌<◌, ◌≤◌, Bool, true, false, List, [], ◌∷◌, ◌++◌, length, get_or, set, Some, Result, Ok, Err, OnOk, sym, ap, ◌∙◌, inl, inr, subst, refl, arith}
+use Rattle.std.proofs.Common.{◌≡◌, ◌≢◌, ◌⊎◌, ℕ, suc, ◌+◌, ◌<◌, ◌≤◌, Bool, true, false, List, [], ◌∷◌, ◌++◌, length, get_or, set, Some, Result, Ok, Err, OnOk, sym, ap, ◌∙◌, inl, inr, subst, refl, arith}
 use Rattle.std.proofs.lemmas.Grind.{common_steps, get_or-set_at}
 use Rattle.std.proofs.lemmas.List.{get_or-set_other, length-set}
 use Rattle.std.proofs.lemmas.List.Elements.{at_read}
@@ -7,8 +7,8 @@ use Rattle.std.proofs.lemmas.List.Quantifiers.{any-set, position-Some}
 use Rattle.std.proofs.lemmas.Slice.Eq.{bytes_eq-Decides}
 use Rattle.std.specs.List.{Any, filter, position}
 use Rattle.std.specs.Str.{bytes_eq}
-use Rattle.weed_base.specs.System.{FileCall}
-use Rattle.weed_base.specs.Awaiting.{Covers, StillAwaits, AwaitsNoMore, IsNamedAt, FallsByAnswer, AwaitsNothing}
+use Rattle.weed_base.specs.System.{FileCall, Act}
+use Rattle.weed_base.specs.Awaiting.{Covers, StillAwaits, AwaitsNoMore, IsNamedAt, FallsByAnswer, AwaitsNothing, SettlesBy, SettlesFirst}
 use Rattle.weed_base.specs.declared.real.kept.Awaits.{Awaits}
 use Rattle.weed_base.specs.declared.real.kept.Awaits.TheVariants.{Nothing, Data, Everything}
 use Rattle.weed_base.specs.declared.real.kept.KeptFile.{KeptFile}
@@ -160,3 +160,13 @@ no_more_set {F} May files place before kept within was same file rises name held
       | inl covered ↦ inl (sym same ∙ holds.0, (sym file ∙ holds.1.0, covered))
       | inr may ↦ inr (subst (λ it. May it mark) (sym same ∙ holds.0) may)
     ])
+
+-- one file more was settled
+pub settles_next : {R F : Type 0} (one_act : R → R → Act F → Type 0) (before now : List (KeptFile F)) (i : ℕ) (kept : KeptFile F) (old middle new : R) → SettlesFirst one_act before i old middle → i < length now → ((d : KeptFile F) → i ≤ i → get_or now i d ≡ get_or before i d) → kept ≡ get_or now i kept → SettlesBy one_act kept.awaits kept.file middle new → SettlesFirst one_act before (i + 1) old new
+settles_next {F = F} one_act before now i kept old middle new first within rest was once =
+    let one_more : suc i ≡ i + 1 = omega arith in
+    let last : (d : KeptFile F) → SettlesBy one_act (get_or before i d).awaits (get_or before i d).file middle new =
+    λ d.
+        let here : kept ≡ get_or before i d = sym (at_read now (λ y. y ≡ kept) i kept within was refl d) ∙ rest d (omega arith) in
+        subst (λ (it : KeptFile F). SettlesBy one_act it.awaits it.file middle new) here once
+    in subst (λ count. SettlesFirst one_act before count old new) one_more (middle, first, last)

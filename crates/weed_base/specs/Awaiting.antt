@@ -1,11 +1,12 @@
 -- The open files of a directory, and what they await of the next sync.
-use Rattle.std.specs.Prelude.{◌≡◌, ◌≢◌, ◌⊎◌, ◌<◌, ℕ, cond, not, List, length, filter, map, slice_index_or, ⊤}
+use Rattle.std.specs.Prelude.{◌≡◌, ◌≢◌, ◌⊎◌, ◌<◌, ◌≤◌, ℕ, zero, suc, true, cond, not, List, length, filter, map, slice_index_or, ⊤}
 use Rattle.std.specs.Str.{bytes_eq}
 use Rattle.std.specs.List.{Any}
-use Rattle.weed_base.specs.System.{FileCall, SettleData, SettleAll}
+use Rattle.weed_base.specs.System.{FileCall, SettleData, SettleAll, Act, CallFile}
 use Rattle.weed_base.specs.declared.real.kept.Awaits.{Awaits}
 use Rattle.weed_base.specs.declared.real.kept.Awaits.TheVariants.{Nothing, Data, Everything}
 use Rattle.weed_base.specs.declared.real.kept.KeptFile.{KeptFile}
+use Rattle.weed_base.specs.declared.real.kept.KeptFiles.{KeptFiles}
 
 -- A mark asks for at least as much as another: everything for more than data, data for more than nothing.
 abbrev pub Covers : Awaits → Awaits → Type 0
@@ -76,3 +77,24 @@ renamed_file from to kept = cond (bytes_eq kept.name from) (record kept { name =
 -- What had the first name has the second, what had the second is gone, and the other files stay.
 abbrev pub AreRenamed : {F : Type 0} → List ℕ → List ℕ → List (KeptFile F) → List (KeptFile F) → Type 0
 AreRenamed from to old new = new ≡ map (renamed_file from to) (without to old)
+
+-- What the file awaited was asked for by one call of its kind, and nothing where it awaited nothing.
+abbrev pub SettlesBy : {R F : Type 0} → (R → R → Act F → Type 0) → Awaits → F → R → R → Type 0
+SettlesBy one_act Nothing file old new = new ≡ old
+SettlesBy one_act Data file old new = one_act old new (CallFile file SettleData)
+SettlesBy one_act Everything file old new = one_act old new (CallFile file SettleAll)
+
+-- So many first files were settled by it, one after another.
+abbrev pub SettlesFirst : {R F : Type 0} → (R → R → Act F → Type 0) → List (KeptFile F) → ℕ → R → R → Type 0
+SettlesFirst one_act files zero old new = new ≡ old
+SettlesFirst {R} {F} one_act files (suc count) old new =
+    (next : R) × SettlesFirst one_act files count old next
+    × ((d : KeptFile F) → SettlesBy one_act (slice_index_or files count d).awaits (slice_index_or files count d).file next new)
+
+-- First files of the directory were settled so, and then the names at most, where they awaited it.
+pub record SettlesInTurn {R F : Type 0} (one_act : R → R → Act F → Type 0) (kept : KeptFiles F) (old new : R) : Type 0 where
+  pub count : ℕ
+  pub next : R
+  pub within : count ≤ length kept.files.items
+  pub files : SettlesFirst one_act kept.files.items count old next
+  pub names : (new ≡ next) ⊎ ((kept.names_await ≡ true) × one_act next new (CallFile kept.directory SettleAll))

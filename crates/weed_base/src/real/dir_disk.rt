@@ -5,7 +5,7 @@ ghost use Rattle.weed_base.specs.Attachment.{Attaches, unattached};
 ghost use Rattle.weed_base.specs.Told.{raised, HasCause, IsCauseOf};
 ghost use Rattle.weed_base.specs.Files.{ReadsAt};
 ghost use Rattle.weed_base.specs.System.{Write, CutTo, Missed, RemoveFile, RenameFile, ActsOnly, IsSettling, IsOpening};
-ghost use Rattle.weed_base.specs.Awaiting.{Awaiting};
+ghost use Rattle.weed_base.specs.Awaiting.{Awaiting, SettlesInTurn};
 ghost use Rattle.weed_base.specs.Folder.{OfFile, OfFileOrMissed, IsCallOf, IsMaking, SettlesMakesSettles, IsListing, IsOpenedFolder, IsSameFolder, KeepsFolder, MarksNoMore, HasMade, HasRemoved, HasRenamed, NamesMayHaveChanged, SettlesFiles, IsSettledWhole, path_of};
 ghost use Rattle.weed_base.specs.declared.real.folder.Folder.{Folder};
 ghost use Rattle.weed_base.specs.RealForms.{IsBrokenOff, IsCalled, Ticks, StaysBroken, StaysAttached, BreaksOffUnless, ActsOnceAttached, BothAttached, BothOrNone};
@@ -335,7 +335,8 @@ impl<F: SystemFile + Drop, R: System<File = F> + AllocGlobal + Drop> Disk
         ensures settled { OnOk result (BothAttached (λ before after. IsSameFolder before after × SettlesFiles R.file_answered before after × IsSettledWhole after) self.old self.new) }
         ensures whole { OnOk result (self.new.broken ≡ self.old.broken) }
         ensures broken { OnErr result (BreaksOffUnless ((self.old.counts.made ≡ 2 ^ 64 - 1) ⊎ (self.old.folder ≡ None)) self.old self.new) }
-        ensures acts { ActsOnly R.one_act IsSettling self.old.system self.new.system }
+        ensures turns { MatchOption self.old.folder (self.new.system ≡ self.old.system)
+            (λ folder. SettlesInTurn R.one_act folder.kept self.old.system self.new.system) }
     {
         self.counts.begin()?;
         let Some(folder) = &mut self.folder else {

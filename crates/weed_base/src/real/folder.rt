@@ -3,7 +3,7 @@ ghost use Rattle.std.specs.Prelude.{◌≡◌, ◌≤◌, ◌<◌, ◌+◌, ◌^
 ghost use Rattle.std.specs.List.{All};
 ghost use Rattle.weed_base.specs.Files.{ReadsAt, ReadsSome};
 ghost use Rattle.weed_base.specs.System.{Write, CutTo, SettleAll, CallFile, OpenedToSettle, Missed, Made, ActsOnce, ActsOnly, IsSettling, IsOpening, MakeFile, RemoveFile, RenameFile, path_in, directory_above};
-ghost use Rattle.weed_base.specs.Awaiting.{Covers, Awaiting, StillAwaits, AwaitsNoMore, IsNamedAt, IsFileAt, IsOpenAs};
+ghost use Rattle.weed_base.specs.Awaiting.{Covers, Awaiting, StillAwaits, AwaitsNoMore, IsNamedAt, IsFileAt, IsOpenAs, SettlesInTurn};
 ghost use Rattle.weed_base.specs.Folder.{IsOpenAt, OfFile, OfFileOrMissed, IsCallOf, IsMaking, IsSettledAt, MakesThenSettles, IsListing, OpensOne, IsOpenedFolder, IsSameFolder, KeepsFolder, MarksNoMore, HasMade, HasRemoved, HasRenamed, NamesMayHaveChanged, SettlesFiles, IsSettledWhole, path_of};
 
 use crate::file_name::FileName;
@@ -357,6 +357,7 @@ impl<F: SystemFile + Drop> Folder<F> {
         ensures falls { SettlesFiles R.file_answered self.old self.new }
         ensures settled { OnOk result (IsSettledWhole self.new) }
         ensures same { IsSameFolder self.old self.new }
+        ensures turns { SettlesInTurn R.one_act self.old.kept system.old system.new }
         ensures acts { ActsOnly R.one_act IsSettling system.old system.new }
     {
         self.kept.sync(system)

@@ -1,6 +1,6 @@
 use Rattle.std.proofs.Common.{◌≡◌, ◌<◌, ◌≤◌, ℕ, get_or}
 use Rattle.weed_base.specs.System.{ActsOnly, IsSettling}
-use Rattle.weed_base.specs.Awaiting.{FallsByAnswer, AwaitsNothing}
+use Rattle.weed_base.specs.Awaiting.{FallsByAnswer, AwaitsNothing, SettlesFirst}
 use Rattle.weed_base.specs.declared.real.kept.KeptFile.{KeptFile}
 use Rattle.weed_base.proofs.ListLemmas.{EachPair}
 use Rattle.weed_base.proofs.real.kept.sync_each.Given as goal
@@ -11,3 +11,4 @@ invariant-loop-kept g l =
     × ((k : ℕ) (d : KeptFile g.row.F.Denot) → k < l.kept-index → AwaitsNothing (get_or l.files k d))
     × ((k : ℕ) (d : KeptFile g.row.F.Denot) → l.kept-index ≤ k → get_or l.files k d ≡ get_or l.initial.files k d)
     × ActsOnly g.R.System.one_act IsSettling l.initial.system l.system
+    × SettlesFirst g.R.System.one_act l.initial.files l.kept-index l.initial.system l.system
