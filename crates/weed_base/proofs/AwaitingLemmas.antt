@@ -167,6 +167,6 @@ settles_next {F = F} one_act before now i kept old middle new first within rest 
     let one_more : suc i ≡ i + 1 = omega arith in
     let last : (d : KeptFile F) → SettlesBy one_act (get_or before i d).awaits (get_or before i d).file middle new =
     λ d.
-        let here : kept ≡ get_or before i d = sym (at_read now (λ y. y ≡ kept) i kept within was refl d) ∙ rest d (omega arith) in
-        subst (λ (it : KeptFile F). SettlesBy one_act it.awaits it.file middle new) here once
+    let here : kept ≡ get_or before i d = sym (at_read now (λ y. y ≡ kept) i kept within was refl d) ∙ rest d (omega arith) in
+    subst (λ (it : KeptFile F). SettlesBy one_act it.awaits it.file middle new) here once
     in subst (λ count. SettlesFirst one_act before count old new) one_more (middle, first, last)

@@ -125,8 +125,7 @@ impl<F: SystemFile + Drop, R: System<File = F> + AllocGlobal + Drop> DirDisk<R, 
     }
 }
 
-impl<F: SystemFile + Drop, R: System<File = F> + AllocGlobal + Drop> Disk
-    for DirDisk<R, F> {
+impl<F: SystemFile + Drop, R: System<File = F> + AllocGlobal + Drop> Disk for DirDisk<R, F> {
     const MARKS_ONLY: bool = false;
 
     ghost MARKS_ONLY = { false };
@@ -350,7 +349,6 @@ impl<F: SystemFile + Drop, R: System<File = F> + AllocGlobal + Drop> Disk
     }
 }
 
-impl<F: SystemFile + Drop, R: System<File = F> + AllocGlobal + Drop> WholeDisk
-    for DirDisk<R, F> {
+impl<F: SystemFile + Drop, R: System<File = F> + AllocGlobal + Drop> WholeDisk for DirDisk<R, F> {
     ghost whole = { refl };
 }
