@@ -24,8 +24,8 @@ use Rattle.meta_log.specs.Images.{ImagesKeep, AllNear, AreNear}
 use Rattle.meta_log.proofs.RecordCrashes.{keeps_each}
 use Rattle.weed.specs.Handed.{IsSentAt, SendsAt}
 use Rattle.weed.specs.Settling.{IsOneOf, Settling, Tearing}
-use Rattle.weed.specs.Inbox.{ReadsAsNeeded}
-use Rattle.weed.specs.Session.{State, Answers, Turn, Turns, Steps, Rests, SendsUnlessCut, ReadsAlong, ReadsNoMore, EndsAfter, LeadsTo, Stands, disk_answer, last_of, most_turns}
+use Rattle.weed.specs.Inbox.{IsReadBeside}
+use Rattle.weed.specs.Session.{State, Answers, Turn, Turns, Steps, Rests, SendsUnlessCut, ReadsOnceSent, ReadsAlong, ReadsNoMore, EndsAfter, LeadsTo, Stands, disk_answer, last_of, most_turns}
 use Rattle.weed.specs.Tells.{Leads, Ends}
 use Rattle.weed.specs.Crash.{IsPassed, IsOfRun, BeginsWith, KeepsFrom, Withstands}
 use Rattle.weed.proofs.InboxLemmas.{needs_nothing}
@@ -324,11 +324,11 @@ ends_after Here Cut cut tick images since sent only_now counts_now start mid now
 ends_after Here Cut cut tick images since sent only_now counts_now start mid now exit.TurnsSpent first path left bytes files moments session turns few keeping told sends leads = absurd leads.2
 
 -- A turn more was read along the path.
-pub reads-push : {S : Type 0} (left : S → Option (List ℕ)) (reads : S → ℕ) (old mid new : S) (first : State) (path : List State) (next : State)
-    → ReadsAlong left reads old mid first path → ReadsAsNeeded left reads (Some (last_of first path).left) mid new → ReadsAlong left reads old new first (path ++ next ∷ [])
-reads-push left reads old mid new first [] next along needs = (new, subst (λ source. ReadsAsNeeded left reads (Some first.left) source new) along needs, refl)
-reads-push left reads old mid new first (step ∷ later) next along needs = (along.0, along.1, reads-push left reads along.0 mid new step later next along.2 needs)
+pub reads-push : {S H : Type 0} (left : S → Option (List ℕ)) (reads : S → ℕ) (one_read : S → S → H → Type 0) (sent : H → Option (List Piece)) (old mid new : S) (first : State) (path : List State) (next : State)
+    → ReadsAlong left reads one_read sent old mid first path → ReadsOnceSent left reads one_read sent (last_of first path) mid new → ReadsAlong left reads one_read sent old new first (path ++ next ∷ [])
+reads-push left reads one_read sent old mid new first [] next along needs = (new, subst (λ source. ReadsOnceSent left reads one_read sent first source new) along needs, refl)
+reads-push left reads one_read sent old mid new first (step ∷ later) next along needs = (along.0, along.1, reads-push left reads one_read sent along.0 mid new step later next along.2 needs)
 
 -- Nothing was read.
-pub reads_nothing : {S : Type 0} (left : S → Option (List ℕ)) (reads : S → ℕ) (source : S) (first : State) → ReadsNoMore left reads source source first []
-reads_nothing left reads source first = (source, refl, needs_nothing left reads (Some first.left) source)
+pub reads_nothing : {S H : Type 0} (left : S → Option (List ℕ)) (reads : S → ℕ) (one_read : S → S → H → Type 0) (sent : H → Option (List Piece)) (source : S) (host : H) (first : State) → bytes_sent (sent host) ≡ Some first.sent → ReadsNoMore left reads one_read sent source source first []
+reads_nothing left reads one_read sent source host first told = (source, refl, (host, told, needs_nothing left (IsReadBeside reads one_read host) (Some first.left) source))

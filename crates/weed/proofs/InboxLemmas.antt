@@ -181,26 +181,26 @@ gives_nothing old None same = sym same
 gives_nothing old (Some rest) same = sym same
 
 -- one needed read more
-abbrev needed : {S : Type 0} (left : S → Option (List ℕ)) (reads : S → ℕ) (all : Option (List ℕ)) (mid new : S) (ahead bytes : List ℕ)
-    → left_of ahead (left mid) ≡ all → LacksHead ahead → reads new ≡ raised (reads mid) → Consumes (left mid) (left new) bytes → IsNeededRead left reads all mid new
-needed left reads all mid new ahead bytes came lacks once took = record { ahead = ahead; came = sym came; lacks = lacks; once = once; gave = bytes; took = took }
+abbrev needed : {S : Type 0} (left : S → Option (List ℕ)) (IsRead : S → S → Type 0) (all : Option (List ℕ)) (mid new : S) (ahead bytes : List ℕ)
+    → left_of ahead (left mid) ≡ all → LacksHead ahead → IsRead mid new → Consumes (left mid) (left new) bytes → IsNeededRead left IsRead all mid new
+needed left IsRead all mid new ahead bytes came lacks once took = record { ahead = ahead; came = sym came; lacks = lacks; once = once; gave = bytes; took = took }
 
-pub needs_more : {S : Type 0} (left : S → Option (List ℕ)) (reads : S → ℕ) (all : Option (List ℕ)) (old mid new : S) (ahead bytes : List ℕ) (gave : ℕ)
-    → (count : ℕ) × AreNeededReads left reads all count old mid → left_of ahead (left mid) ≡ all → LacksHead ahead → reads new ≡ raised (reads mid)
+pub needs_more : {S : Type 0} (left : S → Option (List ℕ)) (IsRead : S → S → Type 0) (all : Option (List ℕ)) (old mid new : S) (ahead bytes : List ℕ) (gave : ℕ)
+    → (count : ℕ) × AreNeededReads left IsRead all count old mid → left_of ahead (left mid) ≡ all → LacksHead ahead → IsRead mid new
     → length bytes ≡ gave → (gave ≡ 0 → ⊥) → Consumes (left mid) (left new) bytes
-    → (count : ℕ) × AreNeededReads left reads all count old new
-needs_more left reads all old mid new ahead bytes gave before came lacks once size some took =
-    (suc before.0, (mid, before.1, needed left reads all mid new ahead bytes came lacks once took, λ none. some (sym size ∙ ap length none)))
+    → (count : ℕ) × AreNeededReads left IsRead all count old new
+needs_more left IsRead all old mid new ahead bytes gave before came lacks once size some took =
+    (suc before.0, (mid, before.1, needed left IsRead all mid new ahead bytes came lacks once took, λ none. some (sym size ∙ ap length none)))
 
 -- the reads that were needed, and one more at the end of it
-pub needs_last : {S : Type 0} (left : S → Option (List ℕ)) (reads : S → ℕ) (all : Option (List ℕ)) (old mid new : S) (ahead bytes : List ℕ)
-    → (count : ℕ) × AreNeededReads left reads all count old mid → left_of ahead (left mid) ≡ all → LacksHead ahead → reads new ≡ raised (reads mid)
-    → Consumes (left mid) (left new) bytes → ReadsAsNeeded left reads all old new
-needs_last left reads all old mid new ahead bytes before came lacks once took = (before.0, mid, before.1, inr (needed left reads all mid new ahead bytes came lacks once took))
+pub needs_last : {S : Type 0} (left : S → Option (List ℕ)) (IsRead : S → S → Type 0) (all : Option (List ℕ)) (old mid new : S) (ahead bytes : List ℕ)
+    → (count : ℕ) × AreNeededReads left IsRead all count old mid → left_of ahead (left mid) ≡ all → LacksHead ahead → IsRead mid new
+    → Consumes (left mid) (left new) bytes → ReadsAsNeeded left IsRead all old new
+needs_last left IsRead all old mid new ahead bytes before came lacks once took = (before.0, mid, before.1, inr (needed left IsRead all mid new ahead bytes came lacks once took))
 
-pub needs_none : {S : Type 0} (left : S → Option (List ℕ)) (reads : S → ℕ) (all : Option (List ℕ)) (old new : S)
-    → (count : ℕ) × AreNeededReads left reads all count old new → ReadsAsNeeded left reads all old new
-needs_none left reads all old new before = (before.0, new, before.1, inl refl)
+pub needs_none : {S : Type 0} (left : S → Option (List ℕ)) (IsRead : S → S → Type 0) (all : Option (List ℕ)) (old new : S)
+    → (count : ℕ) × AreNeededReads left IsRead all count old new → ReadsAsNeeded left IsRead all old new
+needs_none left IsRead all old new before = (before.0, new, before.1, inl refl)
 
-pub needs_nothing : {S : Type 0} (left : S → Option (List ℕ)) (reads : S → ℕ) (all : Option (List ℕ)) (source : S) → ReadsAsNeeded left reads all source source
-needs_nothing left reads all source = (0, source, refl, inl refl)
+pub needs_nothing : {S : Type 0} (left : S → Option (List ℕ)) (IsRead : S → S → Type 0) (all : Option (List ℕ)) (source : S) → ReadsAsNeeded left IsRead all source source
+needs_nothing left IsRead all source = (0, source, refl, inl refl)

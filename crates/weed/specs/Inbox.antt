@@ -25,27 +25,31 @@ pub record LacksHead (bytes : List ℕ) : Type 0 where
   pub none : HasNoEndBelow bytes (length bytes)
   pub short : length bytes < 16384
 
+-- One read was made, which was counted, and beside it stood this.
+abbrev pub IsReadBeside : {S H : Type 0} → (S → ℕ) → (S → S → H → Type 0) → H → S → S → Type 0
+IsReadBeside reads one_read host old new = (reads new ≡ raised (reads old)) × one_read old new host
+
 -- Of all these bytes, those in front of what the source had left lacked a head; it was read once, and lost the bytes
 -- that this gave.
-pub record IsNeededRead {S : Type 0} (left : S → Option (List ℕ)) (reads : S → ℕ) (all : Option (List ℕ)) (old new : S) : Type 0 where
+pub record IsNeededRead {S : Type 0} (left : S → Option (List ℕ)) (IsRead : S → S → Type 0) (all : Option (List ℕ)) (old new : S) : Type 0 where
   pub ahead : List ℕ
   pub came : Consumes all (left old) ahead
   pub lacks : LacksHead ahead
-  pub once : reads new ≡ raised (reads old)
+  pub once : IsRead old new
   pub gave : List ℕ
   pub took : Consumes (left old) (left new) gave
 
 -- It was read so often, each time so, and each time it gave something.
-abbrev pub AreNeededReads : {S : Type 0} → (S → Option (List ℕ)) → (S → ℕ) → Option (List ℕ) → ℕ → S → S → Type 0
-AreNeededReads left reads all zero old new = new ≡ old
-AreNeededReads {S = S} left reads all (suc count) old new =
-    (mid : S) × AreNeededReads left reads all count old mid × (read : IsNeededRead left reads all mid new) × (read.gave ≢ [])
+abbrev pub AreNeededReads : {S : Type 0} → (S → Option (List ℕ)) → (S → S → Type 0) → Option (List ℕ) → ℕ → S → S → Type 0
+AreNeededReads left IsRead all zero old new = new ≡ old
+AreNeededReads {S = S} left IsRead all (suc count) old new =
+    (mid : S) × AreNeededReads left IsRead all count old mid × (read : IsNeededRead left IsRead all mid new) × (read.gave ≢ [])
 
 -- It was read no more often than it took to tell what stands at the front of all the bytes that were left: no read
 -- came behind one that gave nothing.
-abbrev pub ReadsAsNeeded : {S : Type 0} → (S → Option (List ℕ)) → (S → ℕ) → Option (List ℕ) → S → S → Type 0
-ReadsAsNeeded {S = S} left reads all old new =
-    (count : ℕ) × (mid : S) × AreNeededReads left reads all count old mid × ((new ≡ mid) ⊎ IsNeededRead left reads all mid new)
+abbrev pub ReadsAsNeeded : {S : Type 0} → (S → Option (List ℕ)) → (S → S → Type 0) → Option (List ℕ) → S → S → Type 0
+ReadsAsNeeded {S = S} left IsRead all old new =
+    (count : ℕ) × (mid : S) × AreNeededReads left IsRead all count old mid × ((new ≡ mid) ⊎ IsNeededRead left IsRead all mid new)
 
 -- What stood at the front of the bytes left: nothing, a request, which was taken, or something else.
 abbrev pub FindsHead : Head → Option (List ℕ) → Option (List ℕ) → List ℕ → Type 0

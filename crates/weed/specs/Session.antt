@@ -5,7 +5,8 @@ use Rattle.weed_base.specs.Moments.{first_moment, later_moments}
 use Rattle.name_core.specs.declared.change.Record.{Record}
 use Rattle.meta_log.specs.Kept.{IsRecordLog}
 use Rattle.weed.specs.Request.{IsRequest}
-use Rattle.weed.specs.Inbox.{left_of, IsNoRequest, ReadsAsNeeded}
+use Rattle.weed_base.specs.Sent.{Piece, bytes_sent}
+use Rattle.weed.specs.Inbox.{left_of, IsNoRequest, IsReadBeside, ReadsAsNeeded}
 use Rattle.weed.specs.Reply.{Answering, IsReply, moments_after}
 use Rattle.weed.specs.Answer.{refused_text}
 use Rattle.weed.specs.declared.answer.Status.TheVariants.{InternalServerError, NotImplemented, ServiceUnavailable}
@@ -94,15 +95,22 @@ abbrev pub last_of : State → List State → State
 last_of first [] = first
 last_of first (next ∷ later) = last_of next later
 
--- A source was read along a path, in each turn no more often than it took to tell what stood at the front.
-abbrev pub ReadsAlong : {S : Type 0} → (S → Option (List ℕ)) → (S → ℕ) → S → S → State → List State → Type 0
-ReadsAlong left reads old new first [] = new ≡ old
-ReadsAlong {S = S} left reads old new first (next ∷ later) = (mid : S) × ReadsAsNeeded left reads (Some first.left) old mid × ReadsAlong left reads mid new next later
+-- At a state a source was read no more often than it took to tell what stood at the front, each time beside a host
+-- that had sent all answers so far.
+abbrev pub ReadsOnceSent : {S H : Type 0} → (S → Option (List ℕ)) → (S → ℕ) → (S → S → H → Type 0) → (H → Option (List Piece)) → State → S → S → Type 0
+ReadsOnceSent {H = H} left reads one_read sent state old new =
+    (host : H) × (bytes_sent (sent host) ≡ Some state.sent) × ReadsAsNeeded left (IsReadBeside reads one_read host) (Some state.left) old new
+
+-- The same along a path, in each turn.
+abbrev pub ReadsAlong : {S H : Type 0} → (S → Option (List ℕ)) → (S → ℕ) → (S → S → H → Type 0) → (H → Option (List Piece)) → S → S → State → List State → Type 0
+ReadsAlong left reads one_read sent old new first [] = new ≡ old
+ReadsAlong {S = S} left reads one_read sent old new first (next ∷ later) =
+    (mid : S) × ReadsOnceSent left reads one_read sent first old mid × ReadsAlong left reads one_read sent mid new next later
 
 -- The same along a path and at its end.
-abbrev pub ReadsNoMore : {S : Type 0} → (S → Option (List ℕ)) → (S → ℕ) → S → S → State → List State → Type 0
-ReadsNoMore {S = S} left reads old new first path =
-    (mid : S) × ReadsAlong left reads old mid first path × ReadsAsNeeded left reads (Some (last_of first path).left) mid new
+abbrev pub ReadsNoMore : {S H : Type 0} → (S → Option (List ℕ)) → (S → ℕ) → (S → S → H → Type 0) → (H → Option (List Piece)) → S → S → State → List State → Type 0
+ReadsNoMore {S = S} left reads one_read sent old new first path =
+    (mid : S) × ReadsAlong left reads one_read sent old mid first path × ReadsOnceSent left reads one_read sent (last_of first path) mid new
 
 -- Nothing more was taken, sent, appended or asked for.
 pub record Rests (old last : State) : Type 0 where

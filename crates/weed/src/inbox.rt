@@ -1,8 +1,8 @@
 ghost use Rattle.std.specs.Prelude.{◌≡◌, ◌+◌, ◌-◌, ◌<◌, ◌≤◌, List, ℕ, [], ◌++◌, length, take, drop, IfOk, IfSome, IfNone, MatchResult};
-ghost use Rattle.weed_base.specs.Told.{raised, Reads, Consumes, IsAtEnd, HasCause};
+ghost use Rattle.weed_base.specs.Told.{Reads, Consumes, IsAtEnd, HasCause};
 ghost use Rattle.weed.specs.Span.{part_at};
 ghost use Rattle.weed.specs.HeadEnd.{HasNoEndBelow, IsHeadLength};
-ghost use Rattle.weed.specs.Inbox.{left_of, LacksHead, ReadsAsNeeded, FindsHead, TakesHead, Adds};
+ghost use Rattle.weed.specs.Inbox.{left_of, LacksHead, IsReadBeside, ReadsAsNeeded, FindsHead, TakesHead, Adds};
 
 use crate::request::{MAX_HEAD, read_request};
 use memchr::memmem;
@@ -96,15 +96,15 @@ impl Inbox {
     }
 
     /// Reads as many bytes as there is room for, and answers how many, 0 only at the end.
-    fn fill<S: Source>(&mut self, from: &mut S) -> Result<usize, Failed>
+    fn fill<H, S: Source<H>>(&mut self, from: &mut S, beside: &H) -> Result<usize, Failed>
         requires { LacksHead self.old.pending }
         ensures bytes { MatchResult result
             (λ count. Adds self.old.pending self.new.pending (S.left from.old) (S.left from.new) count)
             (λ _. (self.new.pending ≡ self.old.pending) × (S.left from.new ≡ S.left from.old)) }
         ensures cause { HasCause (S.faults from.old) (S.faults from.new) result }
-        ensures once { S.reads from.new ≡ raised (S.reads from.old) }
+        ensures once { IsReadBeside S.reads S.one_read beside.now from.old from.new }
     {
-        read_more(from, &mut self.buffer, &mut self.pending)
+        read_more(from, beside, &mut self.buffer, &mut self.pending)
     }
 }
 
@@ -112,11 +112,15 @@ impl Inbox {
 /// reads as far as it takes to tell, so it waits for no byte behind a request. A request is taken from them,
 /// and `Inbox::target` gives its target. After any other answer, and after a failed read, all bytes are still
 /// there. Takes no memory.
-pub fn next_head<S: Source>(from: &mut S, inbox: &mut Inbox) -> Result<Head, Failed>
+pub fn next_head<H, S: Source<H>>(
+    from: &mut S,
+    beside: &H,
+    inbox: &mut Inbox,
+) -> Result<Head, Failed>
     ensures head { MatchResult result
         (λ head. FindsHead head (left_of inbox.old.pending (S.left from.old)) (left_of inbox.new.pending (S.left from.new)) inbox.new.target)
         (λ _. left_of inbox.new.pending (S.left from.new) ≡ left_of inbox.old.pending (S.left from.old)) }
-    ensures needed { ReadsAsNeeded S.left S.reads (left_of inbox.old.pending (S.left from.old)) from.old from.new }
+    ensures needed { ReadsAsNeeded S.left (IsReadBeside S.reads S.one_read beside.now) (left_of inbox.old.pending (S.left from.old)) from.old from.new }
     ensures at_hand { ¬ LacksHead inbox.old.pending → from.new ≡ from.old }
     ensures cause { HasCause (S.faults from.old) (S.faults from.new) result }
 {
@@ -130,14 +134,19 @@ pub fn next_head<S: Source>(from: &mut S, inbox: &mut Inbox) -> Result<Head, Fai
             return Ok(Head::NotYet);
         }
         searched = count.saturating_sub(2);
-        if inbox.fill(from)? == 0 {
+        if inbox.fill(from, beside)? == 0 {
             return Ok(if count == 0 { Head::End } else { Head::NotYet });
         }
     }
 }
 
 /// Reads behind the part, and adds to it what was read.
-fn read_more<S: Source>(from: &mut S, buffer: &mut [u8], part: &mut Span) -> Result<usize, Failed>
+fn read_more<H, S: Source<H>>(
+    from: &mut S,
+    beside: &H,
+    buffer: &mut [u8],
+    part: &mut Span,
+) -> Result<usize, Failed>
     requires buffer { length buffer.old ≡ 32768 }
     requires ordered { part.old.start ≤ part.old.end }
     requires within { part.old.end ≤ 32768 }
@@ -148,10 +157,10 @@ fn read_more<S: Source>(from: &mut S, buffer: &mut [u8], part: &mut Span) -> Res
     ensures ordered { part.new.start ≤ part.new.end }
     ensures within { part.new.end ≤ 32768 }
     ensures cause { HasCause (S.faults from.old) (S.faults from.new) result }
-    ensures once { S.reads from.new ≡ raised (S.reads from.old) }
+    ensures once { IsReadBeside S.reads S.one_read beside.now from.old from.new }
 {
     *part = make_room(buffer, *part);
-    let count = read_behind(from, buffer, part.end)?;
+    let count = read_behind(from, beside, buffer, part.end)?;
     part.end += count;
     Ok(count)
 }
@@ -177,14 +186,19 @@ fn make_room(buffer: &mut [u8], part: Span) -> Span
 }
 
 /// Reads into the room behind `end`.
-fn read_behind<S: Source>(from: &mut S, buffer: &mut [u8], end: usize) -> Result<usize, Failed>
+fn read_behind<H, S: Source<H>>(
+    from: &mut S,
+    beside: &H,
+    buffer: &mut [u8],
+    end: usize,
+) -> Result<usize, Failed>
     requires { end ≤ length buffer.old }
     ensures bytes { Reads (S.left from.old) (S.left from.new) result (drop end buffer.new) }
     ensures front { take end buffer.new ≡ take end buffer.old }
     ensures cause { HasCause (S.faults from.old) (S.faults from.new) result }
-    ensures once { S.reads from.new ≡ raised (S.reads from.old) }
+    ensures once { IsReadBeside S.reads S.one_read beside.now from.old from.new }
 {
-    from.read(&mut buffer[end..])
+    from.read(beside, &mut buffer[end..])
 }
 
 /// How many bytes stand up to the end of the first empty line, where none ends a line below `searched`.
@@ -219,7 +233,7 @@ mod tests {
         let mut inbox = Inbox::new(alloc)?;
         let mut targets = Vec::new(alloc);
         for _ in 0..10_000 {
-            let head = next_head(&mut from, &mut inbox)?;
+            let head = next_head(&mut from, &(), &mut inbox)?;
             if head != Head::Request {
                 return Ok((String::from_utf8(targets)?, head));
             }
@@ -324,8 +338,8 @@ mod tests {
     fn a_failed_read_loses_nothing(rt: HostRuntime) -> Result<(), Fail> {
         let mut source = source_of(rt.alloc(), INPUT, &[1])?.with_most(10);
         let mut inbox = Inbox::new(rt.alloc())?;
-        assert!(rt; next_head(&mut source, &mut inbox) == Err(Failed));
-        assert!(rt; next_head(&mut source, &mut inbox) == Ok(Head::Request));
+        assert!(rt; next_head(&mut source, &(), &mut inbox) == Err(Failed));
+        assert!(rt; next_head(&mut source, &(), &mut inbox) == Ok(Head::Request));
         assert!(rt; inbox.target() == b"/a/b/".as_slice());
         Ok(())
     }

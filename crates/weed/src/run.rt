@@ -65,7 +65,7 @@ impl From<LogFault> for Exit {
 ///
 /// `filer.once` answers the requests of the source over the log in the host's directory, in order and each
 /// over what the ones before it left: an answer goes out once its record is settled on the disk.
-pub fn weed<S: Source, H: Host, C: Clock>(
+pub fn weed<S: Source<H>, H: Host, C: Clock>(
     alloc: Global,
     words: &[Word],
     world: World<S, H, C>,
@@ -76,7 +76,7 @@ pub fn weed<S: Source, H: Host, C: Clock>(
         × Stands (S.left result.1.source) (bytes_sent (H.sent result.1.host)) (H.files result.1.host) (C.moments result.1.clock) last
         × EndsRun (Rose (H.send_faults world.host) (H.send_faults result.1.host)) (result.1.source ≡ world.source) result.0 first path last (λ of_run.
         IsOwn (H.images world.host) → Survives H.tick H.images H.image_since H.sent world.host result.1.host result.0 first path last of_run)
-        × ReadsNoMore S.left S.reads world.source result.1.source first path }
+        × ReadsNoMore S.left S.reads S.one_read H.sent world.source result.1.source first path }
 
     // Where nothing of the outside failed, the log is one, and fewer than 2^40 requests are answered without
     // closing, the run is done, or memory was wanting.
@@ -126,7 +126,7 @@ pub fn weed<S: Source, H: Host, C: Clock>(
 }
 
 /// Answers the requests of the source over the log in a directory.
-fn filer_once<S: Source, H: Host, C: Clock>(
+fn filer_once<S: Source<H>, H: Host, C: Clock>(
     alloc: Global,
     dir: &[u8],
     world: &mut World<S, H, C>,
@@ -137,7 +137,7 @@ fn filer_once<S: Source, H: Host, C: Clock>(
         × Stands (S.left world.new.source) (bytes_sent (H.sent world.new.host)) (H.files world.new.host) (C.moments world.new.clock) last
         × EndsRun (Rose (H.send_faults world.old.host) (H.send_faults world.new.host)) (world.new.source ≡ world.old.source) result first path last (λ of_run.
         IsOwn (H.images world.old.host) → Survives H.tick H.images H.image_since H.sent world.old.host world.new.host result first path last of_run)
-        × ReadsNoMore S.left S.reads world.old.source world.new.source first path }
+        × ReadsNoMore S.left S.reads S.one_read H.sent world.old.source world.new.source first path }
     ensures unreadable { (files : Files) → H.files world.old.host ≡ Some files → ((records : List Record) → ¬ IsRecordLog files records)
         → EndsUnread result (H.sent world.old.host) (H.sent world.new.host) world.old.source world.new.source world.old.clock world.new.clock
         × (H.files world.new.host ≡ H.files world.old.host) }

@@ -10,7 +10,7 @@ ghost use Rattle.weed.specs.Causes.{IsCauseBeside};
 ghost use Rattle.weed.specs.Crash.{Withstands};
 ghost use Rattle.weed.specs.Filer.{HoldsFiler};
 ghost use Rattle.weed.specs.Handed.{SendsAt};
-ghost use Rattle.weed.specs.Inbox.{left_of, ReadsAsNeeded};
+ghost use Rattle.weed.specs.Inbox.{left_of, IsReadBeside, ReadsAsNeeded};
 ghost use Rattle.weed.specs.Session.{State, Stands, ReadsNoMore};
 ghost use Rattle.weed.specs.Settling.{Settling, Tearing};
 ghost use Rattle.weed.specs.Tells.{Sends, Tells, Asking, Leads, Ends, IsTurnEnd, IsSessionEnd};
@@ -64,7 +64,7 @@ pub struct Session {
 }
 
 /// Answers the requests of the input, each over the log that the ones before it left.
-pub fn run<S: Source, H: Host, C: Clock>(
+pub fn run<S: Source<H>, H: Host, C: Clock>(
     alloc: Global,
     session: &mut Session,
     world: &mut World<S, H, C>,
@@ -77,7 +77,7 @@ pub fn run<S: Source, H: Host, C: Clock>(
         × Ends (Rose (H.send_faults world.old.host) (H.send_faults world.new.host)) result first path last
         × (ImagesKeep (H.images world.old.host) first.log
         → Withstands H.tick H.images H.image_since H.sent world.old.host world.new.host result first path last)
-        × ReadsNoMore S.left S.reads world.old.source world.new.source first path }
+        × ReadsNoMore S.left S.reads S.one_read H.sent world.old.source world.new.source first path }
     ensures disk { IsCauseOf (H.faults world.old.host) (H.faults world.new.host) (result ≡ Exit.DiskFault) }
     ensures read { IsCauseOf (S.faults world.old.source) (S.faults world.new.source) (result ≡ Exit.ReadFault) }
     ensures write { IsCauseBeside (H.send_faults world.old.host) (H.send_faults world.new.host) (result ≡ Exit.WriteFault) (result ≡ Exit.DiskFault) }
@@ -95,7 +95,7 @@ pub fn run<S: Source, H: Host, C: Clock>(
 }
 
 /// Answers what stands in front of the input.
-fn turn<S: Source, H: Host, C: Clock>(
+fn turn<S: Source<H>, H: Host, C: Clock>(
     alloc: Global,
     session: &mut Session,
     world: &mut World<S, H, C>,
@@ -107,7 +107,7 @@ fn turn<S: Source, H: Host, C: Clock>(
         (Settling H.tick H.images H.image_since world.old.host world.new.host old.log)
         (Tearing H.tick H.images H.image_since world.old.host world.new.host old.log)
         (S.left world.new.source) (bytes_sent (H.sent world.new.host)) (H.files world.new.host) (C.moments world.new.clock) session.new result }
-    ensures needed { ReadsAsNeeded S.left S.reads (left_of session.old.inbox.pending (S.left world.old.source)) world.old.source world.new.source }
+    ensures needed { ReadsAsNeeded S.left (IsReadBeside S.reads S.one_read world.old.host) (left_of session.old.inbox.pending (S.left world.old.source)) world.old.source world.new.source }
     ensures pieces { SendsAt (H.tick world.new.host) (H.sent world.old.host) (H.sent world.new.host) }
     ensures held { result ≡ Turned.Open → (records : List Record) × HoldsFiler (H.files world.new.host) session.new.filer records }
     ensures disk { IsCauseOf (H.faults world.old.host) (H.faults world.new.host) (result ≡ Turned.Ended Exit.DiskFault) }
@@ -119,7 +119,7 @@ fn turn<S: Source, H: Host, C: Clock>(
     ensures calls { H.tick world.new.host ≤ H.tick world.old.host + 4 }
     ensures kind { IsTurnEnd result }
 {
-    match next_head(&mut world.source, &mut session.inbox) {
+    match next_head(&mut world.source, &world.host, &mut session.inbox) {
         Ok(Head::Request) => answer_request(alloc, session, world),
         Ok(Head::NotYet) => send_answer(&mut world.host, session.ready.not_yet.as_slice(), true),
         Ok(Head::End) => Turned::Ended(Exit::Done),
@@ -128,7 +128,7 @@ fn turn<S: Source, H: Host, C: Clock>(
 }
 
 /// Answers the request whose target the inbox has.
-fn answer_request<S: Source, H: Host, C: Clock>(
+fn answer_request<S: Source<H>, H: Host, C: Clock>(
     alloc: Global,
     session: &mut Session,
     world: &mut World<S, H, C>,

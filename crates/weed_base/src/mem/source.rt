@@ -1,4 +1,4 @@
-ghost use Rattle.std.specs.Prelude.{◌≡◌, ◌<◌, ◌↔◌, ◌^◌, ◌-◌, min, Some, length, IsTrue, IsErr, IfOk};
+ghost use Rattle.std.specs.Prelude.{◌≡◌, ◌<◌, ◌↔◌, ◌^◌, ◌-◌, min, Some, length, IsTrue, IsErr, IfOk, ⊤};
 ghost use Rattle.weed_base.specs.Told.{Reads, HasCause};
 ghost use Rattle.weed_base.specs.Calls.{uncalled, fails_next, called};
 
@@ -74,14 +74,16 @@ impl MemSource {
     }
 }
 
-impl Source for MemSource {
+impl<B> Source<B> for MemSource {
     ghost left = { λ source. Some source.left };
 
     ghost faults = { λ source. source.calls.faults };
 
     ghost reads = { λ source. source.calls.made };
 
-    fn read(&mut self, room: &mut [u8]) -> Result<usize, Failed>
+    ghost one_read = { λ _ _ _. ⊤ };
+
+    fn read(&mut self, _beside: &B, room: &mut [u8]) -> Result<usize, Failed>
         ensures bytes { Reads (Some self.old.left) (Some self.new.left) result room.new }
         ensures cause { HasCause self.old.calls.faults self.new.calls.faults result }
         ensures count { IfOk result (λ count. count ≡ min (min (length self.old.left) (length room.old)) self.old.most) }

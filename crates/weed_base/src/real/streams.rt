@@ -106,14 +106,16 @@ impl<R: Read> ReaderSource<R> {
     }
 }
 
-impl<R: SteadyRead> Source for ReaderSource<R> {
+impl<R: SteadyRead, B> Source<B> for ReaderSource<R> {
     ghost left = { λ source. R.remaining source.reader };
 
     ghost faults = { λ source. source.faults };
 
     ghost reads = { λ source. source.reads };
 
-    fn read(&mut self, room: &mut [u8]) -> Result<usize, Failed>
+    ghost one_read = { λ _ _ _. ⊤ };
+
+    fn read(&mut self, _beside: &B, room: &mut [u8]) -> Result<usize, Failed>
         ensures bytes { Reads (R.remaining self.old.reader) (R.remaining self.new.reader) result room.new }
         ensures cause { HasCause self.old.faults self.new.faults result }
         ensures counted { self.new.reads ≡ raised self.old.reads }

@@ -1,7 +1,7 @@
 use Rattle.std.proofs.Common.{List, [], ℕ, Option, ◌<◌, ◌≤◌, length, ap, subst, ◌∙◌, IfSome, arith}
 use Rattle.std.proofs.lemmas.List.{length-append}
 use Rattle.weed.specs.HeadEnd.{HasNoEndBelow, IsHeadLength}
-use Rattle.weed.specs.Inbox.{InboxState, FindsHead, IsNoRequest, LacksHead, left_of}
+use Rattle.weed.specs.Inbox.{InboxState, FindsHead, IsNoRequest, LacksHead, IsReadBeside, left_of}
 use Rattle.weed.proofs.HeadLemmas.{end_fits}
 use Rattle.weed.proofs.InboxLemmas.{finds_head, none_long, none_at_end, left_of_adds, ended_before, none_more, gives_nothing, needs_more, needs_last, needs_none}
 use Rattle.weed.proofs.inbox.next_head.Goals as goal
@@ -56,7 +56,7 @@ loop-count-preserved g c =
       within = omega (arith, c.saturating_sub-searched.ensures, count, grown);
       none = λ place below. none_more pending after adds.0 none adds.2 place (omega (arith, c.saturating_sub-searched.ensures, count));
       left = left_of_adds pending after (g.S.Source.left c.loop-count.from) (g.S.Source.left c.fill.new.from) c.in_ok-fill.field-0 adds ∙ c.loop-count.invariant.left;
-      needed = needs_more g.S.Source.left g.S.Source.reads (left_of c.args.inbox.now.pending (g.S.Source.left c.args.from.now)) c.args.from.now c.loop-count.from c.fill.new.from pending adds.0 c.in_ok-fill.field-0
+      needed = needs_more g.S.Source.left (IsReadBeside g.S.Source.reads g.S.Source.one_read c.args.beside.now) (left_of c.args.inbox.now.pending (g.S.Source.left c.args.from.now)) c.args.from.now c.loop-count.from c.fill.new.from pending adds.0 c.in_ok-fill.field-0
           c.loop-count.invariant.needed c.loop-count.invariant.left lacks c.in_ok-fill.ensures.once adds.1 c.if-branch-eq0.false adds.3;
       at_hand = λ whole. absurd (whole (subst (λ (inbox : InboxState). LacksHead inbox.pending) (c.loop-count.invariant.at_hand whole).1 lacks));
       faults = c.in_ok-fill.ensures.cause.quiet (λ failed. cc) ∙ c.loop-count.invariant.faults;
@@ -67,7 +67,7 @@ returns-in_err-fill-clause-needed g c =
     let pending = c.loop-count.inbox.pending in
     let none : HasNoEndBelow pending (length pending) = subst (λ xs. HasNoEndBelow xs (length xs)) c.pending.ensures c.in_default.ensures.none in
     let lacks : LacksHead pending = record { none = none; short = omega (arith, c.if-count-ge-MAX_HEAD.false, ap length c.pending-count.ensures) } in
-    needs_last g.S.Source.left g.S.Source.reads (left_of c.args.inbox.now.pending (g.S.Source.left c.args.from.now)) c.args.from.now c.loop-count.from c.fill.new.from pending []
+    needs_last g.S.Source.left (IsReadBeside g.S.Source.reads g.S.Source.one_read c.args.beside.now) (left_of c.args.inbox.now.pending (g.S.Source.left c.args.from.now)) c.args.from.now c.loop-count.from c.fill.new.from pending []
     c.loop-count.invariant.needed c.loop-count.invariant.left lacks c.in_err-fill.ensures.once
     (gives_nothing (g.S.Source.left c.loop-count.from) (g.S.Source.left c.fill.new.from) c.in_err-fill.ensures.bytes.1)
 
@@ -76,7 +76,7 @@ returns-then-count-eq0-clause-needed g c =
     let pending = c.loop-count.inbox.pending in
     let none : HasNoEndBelow pending (length pending) = subst (λ xs. HasNoEndBelow xs (length xs)) c.pending.ensures c.in_default.ensures.none in
     let lacks : LacksHead pending = record { none = none; short = omega (arith, c.if-count-ge-MAX_HEAD.false, ap length c.pending-count.ensures) } in
-    needs_last g.S.Source.left g.S.Source.reads (left_of c.args.inbox.now.pending (g.S.Source.left c.args.from.now)) c.args.from.now c.loop-count.from c.fill.new.from pending c.in_ok-fill.ensures.bytes.0
+    needs_last g.S.Source.left (IsReadBeside g.S.Source.reads g.S.Source.one_read c.args.beside.now) (left_of c.args.inbox.now.pending (g.S.Source.left c.args.from.now)) c.args.from.now c.loop-count.from c.fill.new.from pending c.in_ok-fill.ensures.bytes.0
     c.loop-count.invariant.needed c.loop-count.invariant.left lacks c.in_ok-fill.ensures.once c.in_ok-fill.ensures.bytes.3
 
 pub returns-else-count-eq0-clause-needed : goal.returns-else-count-eq0-clause-needed
@@ -84,13 +84,13 @@ returns-else-count-eq0-clause-needed g c =
     let pending = c.loop-count.inbox.pending in
     let none : HasNoEndBelow pending (length pending) = subst (λ xs. HasNoEndBelow xs (length xs)) c.pending.ensures c.in_default.ensures.none in
     let lacks : LacksHead pending = record { none = none; short = omega (arith, c.if-count-ge-MAX_HEAD.false, ap length c.pending-count.ensures) } in
-    needs_last g.S.Source.left g.S.Source.reads (left_of c.args.inbox.now.pending (g.S.Source.left c.args.from.now)) c.args.from.now c.loop-count.from c.fill.new.from pending c.in_ok-fill.ensures.bytes.0
+    needs_last g.S.Source.left (IsReadBeside g.S.Source.reads g.S.Source.one_read c.args.beside.now) (left_of c.args.inbox.now.pending (g.S.Source.left c.args.from.now)) c.args.from.now c.loop-count.from c.fill.new.from pending c.in_ok-fill.ensures.bytes.0
     c.loop-count.invariant.needed c.loop-count.invariant.left lacks c.in_ok-fill.ensures.once c.in_ok-fill.ensures.bytes.3
 
 pub returns-in-Some-clause-needed : goal.returns-in-Some-clause-needed
 returns-in-Some-clause-needed g c =
-    needs_none g.S.Source.left g.S.Source.reads (left_of c.args.inbox.now.pending (g.S.Source.left c.args.from.now)) c.args.from.now c.loop-count.from c.loop-count.invariant.needed
+    needs_none g.S.Source.left (IsReadBeside g.S.Source.reads g.S.Source.one_read c.args.beside.now) (left_of c.args.inbox.now.pending (g.S.Source.left c.args.from.now)) c.args.from.now c.loop-count.from c.loop-count.invariant.needed
 
 pub returns-then-count-ge-MAX_HEAD-clause-needed : goal.returns-then-count-ge-MAX_HEAD-clause-needed
 returns-then-count-ge-MAX_HEAD-clause-needed g c =
-    needs_none g.S.Source.left g.S.Source.reads (left_of c.args.inbox.now.pending (g.S.Source.left c.args.from.now)) c.args.from.now c.loop-count.from c.loop-count.invariant.needed
+    needs_none g.S.Source.left (IsReadBeside g.S.Source.reads g.S.Source.one_read c.args.beside.now) (left_of c.args.inbox.now.pending (g.S.Source.left c.args.from.now)) c.args.from.now c.loop-count.from c.loop-count.invariant.needed

@@ -61,7 +61,7 @@ returns-in-Err-clause-answers g c first starts =
             survives_early disk.tick disk.images disk.image_since disk.sent g.met.H.Disk.only_now g.met.H.Disk.counts_now old new own (c.in-Err.ensures.atomic log.0 log.1) c.in-Err.exit first first
             stands.sent_is,
       ),
-      reads_nothing g.S.Source.left g.S.Source.reads c.args.world.now.source first,
+      reads_nothing g.S.Source.left g.S.Source.reads g.S.Source.one_read disk.sent c.args.world.now.source old first starts.stands.sent_is,
     )
 
 pub returns-in-Ok-clause-unreadable : goal.returns-in-Ok-clause-unreadable

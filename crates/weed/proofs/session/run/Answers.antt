@@ -2,7 +2,7 @@ use Rattle.std.proofs.Common.{Some, ◌≡◌, ◌<◌, ◌+◌, ◌∙◌, ◌+
 use Rattle.std.proofs.lemmas.List.{length_push}
 use Rattle.weed_base.specs.Told.{Rose}
 use Rattle.weed_base.specs.Sent.{bytes_sent}
-use Rattle.weed.specs.Inbox.{ReadsAsNeeded}
+use Rattle.weed.specs.Inbox.{IsReadBeside, ReadsAsNeeded}
 use Rattle.weed.specs.Session.{State, Turn, last_of, most_turns}
 use Rattle.weed.specs.declared.exit.Exit.TheVariants.{DiskFault, ReadFault, WriteFault}
 use Rattle.weed.proofs.SessionLemmas.{rests, open_is_no_end}
@@ -42,8 +42,11 @@ loop-turn-preserved g c =
             steps-push Turn first before.0 turn.0 before.2 turn.2,
             length_push before.0 turn.0 ∙ ap (λ n. n + 1) before.3,
             λ keep. keeping_more disk.tick disk.images disk.image_since disk.sent g.met.H.Disk.only_now start mid now first before.0 (before.4 keep) turn.0 turn.2 turn.3 c.in-Open.ensures.pieces before.1.sent_is,
-            reads-push source.left source.reads c.args.world.now.source c.loop-turn.world.source c.turn.new.world.source first before.0 turn.0 before.5
-                (subst (λ all. ReadsAsNeeded source.left source.reads all c.loop-turn.world.source c.turn.new.world.source) before.1.left_is c.in-Open.ensures.needed),
+            reads-push source.left source.reads source.one_read disk.sent c.args.world.now.source c.loop-turn.world.source c.turn.new.world.source first before.0 turn.0 before.5 (
+                  mid,
+                  before.1.sent_is,
+                  subst (λ all. ReadsAsNeeded source.left (IsReadBeside source.reads source.one_read mid) all c.loop-turn.world.source c.turn.new.world.source) before.1.left_is c.in-Open.ensures.needed,
+                ),
           );
       faults = c.in-Open.ensures.disk.quiet (open_is_no_end DiskFault) ∙ c.loop-turn.invariant.faults;
       read_faults = c.in-Open.ensures.read.quiet (open_is_no_end ReadFault) ∙ c.loop-turn.invariant.read_faults;
@@ -73,7 +76,11 @@ returns-in-Ended-clause-ends g c first tells =
       (
         c.loop-turn.world.source,
         before.5,
-        subst (λ all. ReadsAsNeeded source.left source.reads all c.loop-turn.world.source c.turn.new.world.source) before.1.left_is c.in-Ended.ensures.needed,
+        (
+          c.loop-turn.world.host,
+          before.1.sent_is,
+          subst (λ all. ReadsAsNeeded source.left (IsReadBeside source.reads source.one_read c.loop-turn.world.host) all c.loop-turn.world.source c.turn.new.world.source) before.1.left_is c.in-Ended.ensures.needed,
+        ),
       ),
     )
 
@@ -89,7 +96,11 @@ returns-clause-ends g c first tells =
           (c.loop-turn.session.inbox.pending, before.1.left_is),
       (before.2, all, refl),
       λ keep. spent_ends disk.tick disk.images disk.image_since disk.sent g.met.H.Disk.only_now c.args.world.now.host now first before.0 (before.4 keep) before.1.sent_is,
-      (c.loop-turn.world.source, before.5, needs_nothing g.S.Source.left g.S.Source.reads (Some (last_of first before.0).left) c.loop-turn.world.source),
+      (
+        c.loop-turn.world.source,
+        before.5,
+        (now, before.1.sent_is, needs_nothing g.S.Source.left (IsReadBeside g.S.Source.reads g.S.Source.one_read now) (Some (last_of first before.0).left) c.loop-turn.world.source),
+      ),
     )
 
 pub returns-in-Ended-clause-grows : goal.returns-in-Ended-clause-grows

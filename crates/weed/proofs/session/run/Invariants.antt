@@ -19,7 +19,7 @@ invariant-loop-turn g l =
           → (path : List State) × Tells (g.S.Source.left l.world.source) (bytes_sent (disk.sent l.world.host)) (disk.files l.world.host) (g.C.Clock.moments l.world.clock) l.session (last_of first path)
           × Turns first path × (length path ≡ l._turn)
           × (ImagesKeep (disk.images l.fn.world.host) first.log → Keeping disk.tick disk.images disk.image_since disk.sent l.fn.world.host l.world.host first path)
-          × ReadsAlong g.S.Source.left g.S.Source.reads l.fn.world.source l.world.source first path;
+          × ReadsAlong g.S.Source.left g.S.Source.reads g.S.Source.one_read disk.sent l.fn.world.source l.world.source first path;
       faults : disk.faults l.world.host ≡ disk.faults l.fn.world.host;
       read_faults : g.S.Source.faults l.world.source ≡ g.S.Source.faults l.fn.world.source;
       send_faults : disk.send_faults l.world.host ≡ disk.send_faults l.fn.world.host;
