@@ -64,7 +64,8 @@ impl From<LogFault> for Exit {
 /// Does what the words ask for, over the world that it is handed, and hands the world back.
 ///
 /// `filer.once` answers the requests of the source over the log in the host's directory, in order and each
-/// over what the ones before it left: an answer goes out once its record is settled on the disk.
+/// over what the ones before it left: an answer goes out once its record is settled on the disk, and before the
+/// next request is read.
 pub fn weed<S: Source<H>, H: Host, C: Clock>(
     alloc: Global,
     words: &[Word],

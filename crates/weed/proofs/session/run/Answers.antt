@@ -43,10 +43,10 @@ loop-turn-preserved g c =
             length_push before.0 turn.0 ∙ ap (λ n. n + 1) before.3,
             λ keep. keeping_more disk.tick disk.images disk.image_since disk.sent g.met.H.Disk.only_now start mid now first before.0 (before.4 keep) turn.0 turn.2 turn.3 c.in-Open.ensures.pieces before.1.sent_is,
             reads-push source.left source.reads source.one_read disk.sent c.args.world.now.source c.loop-turn.world.source c.turn.new.world.source first before.0 turn.0 before.5 (
-                  mid,
-                  before.1.sent_is,
-                  subst (λ all. ReadsAsNeeded source.left (IsReadBeside source.reads source.one_read mid) all c.loop-turn.world.source c.turn.new.world.source) before.1.left_is c.in-Open.ensures.needed,
-                ),
+              mid,
+              before.1.sent_is,
+              subst (λ all. ReadsAsNeeded source.left (IsReadBeside source.reads source.one_read mid) all c.loop-turn.world.source c.turn.new.world.source) before.1.left_is c.in-Open.ensures.needed,
+            ),
           );
       faults = c.in-Open.ensures.disk.quiet (open_is_no_end DiskFault) ∙ c.loop-turn.invariant.faults;
       read_faults = c.in-Open.ensures.read.quiet (open_is_no_end ReadFault) ∙ c.loop-turn.invariant.read_faults;
