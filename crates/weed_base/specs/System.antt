@@ -54,6 +54,10 @@ IsSettling (MakeFile path) = ⊥
 IsSettling (RemoveFile path) = ⊥
 IsSettling (RenameFile from to) = ⊥
 
+-- Something that was to be settled wasn't.
+abbrev pub SettlingFailed : {F : Type 0} → (Act F → Type 0) → Type 0
+SettlingFailed {F} failed = (act : Act F) × IsSettling act × failed act
+
 -- The act settles something, or makes the directory at that path.
 abbrev pub IsOpening : {F : Type 0} → List ℕ → Act F → Type 0
 IsOpening path act = IsSettling act ⊎ (act ≡ MakeDirectory path)

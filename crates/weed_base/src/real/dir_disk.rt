@@ -1,10 +1,10 @@
-ghost use Rattle.std.specs.Prelude.{◌≡◌, ◌≤◌, ◌<◌, ◌+◌, ◌-◌, ◌^◌, ◌⊎◌, ◌↔◌, length, None, true, false, IsErr, IsErrOf, IfOk, IfSome, OnOk, OnErr, IsSomeAnd, MatchOption, refl, ⊤};
+ghost use Rattle.std.specs.Prelude.{◌≡◌, ◌≤◌, ◌<◌, ◌+◌, ◌-◌, ◌^◌, ◌⊎◌, ◌↔◌, length, None, true, false, IsErr, IsErrOf, IfOk, IfSome, OnOk, OnErr, IsSomeAnd, MatchOption, string_bytes, refl, ⊤};
 ghost use Rattle.std.proofs.lemmas.Bool.{false≢true};
 ghost use Rattle.std.proofs.lemmas.Option.{none-some};
 ghost use Rattle.weed_base.specs.Attachment.{Attaches, unattached};
 ghost use Rattle.weed_base.specs.Told.{raised, HasCause, IsCauseOf};
 ghost use Rattle.weed_base.specs.Files.{ReadsAt};
-ghost use Rattle.weed_base.specs.System.{Write, CutTo, Missed, RemoveFile, RenameFile, ActsOnly, IsSettling, IsOpening};
+ghost use Rattle.weed_base.specs.System.{Write, CutTo, Missed, RemoveFile, RenameFile, ActsOnly, IsSettling, SettlingFailed, IsOpening};
 ghost use Rattle.weed_base.specs.Awaiting.{Awaiting, SettlesInTurn};
 ghost use Rattle.weed_base.specs.Folder.{OfFile, OfFileOrMissed, IsCallOf, IsMaking, SettlesMakesSettles, IsListing, IsOpenedFolder, IsSameFolder, KeepsFolder, MarksNoMore, HasMade, HasRemoved, HasRenamed, NamesMayHaveChanged, SettlesFiles, IsSettledWhole, path_of};
 ghost use Rattle.weed_base.specs.declared.real.folder.Folder.{Folder};
@@ -199,6 +199,8 @@ impl<F: SystemFile + Drop, R: System<File = F> + AllocGlobal + Drop> Disk for Di
         ensures keeps { StaysAttached self.old self.new }
         ensures names { IfOk result (λ names. IsSomeAnd self.old.folder (IsListing R.answered names)) }
         ensures detached { self.old.folder ≡ None → IsErrOf result NamesFault.Failed }
+        ensures failed { IsErrOf result NamesFault.Failed
+            → (self.old.counts.made ≡ 2 ^ 64 - 1) ⊎ (self.old.folder ≡ None) ⊎ IsSomeAnd self.old.folder (λ folder. R.unlisted (string_bytes folder.path)) }
         ensures looks { self.new.system ≡ self.old.system }
     {
         if self.counts.begin().is_err() {
@@ -334,6 +336,7 @@ impl<F: SystemFile + Drop, R: System<File = F> + AllocGlobal + Drop> Disk for Di
         ensures settled { OnOk result (BothAttached (λ before after. IsSameFolder before after × SettlesFiles R.file_answered before after × IsSettledWhole after) self.old self.new) }
         ensures whole { OnOk result (self.new.broken ≡ self.old.broken) }
         ensures broken { OnErr result (BreaksOffUnless ((self.old.counts.made ≡ 2 ^ 64 - 1) ⊎ (self.old.folder ≡ None)) self.old self.new) }
+        ensures failed { OnErr result ((self.old.counts.made ≡ 2 ^ 64 - 1) ⊎ (self.old.folder ≡ None) ⊎ SettlingFailed R.failed) }
         ensures turns { MatchOption self.old.folder (self.new.system ≡ self.old.system)
             (λ folder. SettlesInTurn R.one_act folder.kept self.old.system self.new.system) }
     {

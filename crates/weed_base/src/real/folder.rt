@@ -2,7 +2,7 @@
 ghost use Rattle.std.specs.Prelude.{◌≡◌, ◌≤◌, ◌<◌, ◌+◌, ◌^◌, ◌⊎◌, length, take, drop, true, string_bytes, IfOk, IfSome, OnOk, OnErr, MatchOption};
 ghost use Rattle.std.specs.List.{All};
 ghost use Rattle.weed_base.specs.Files.{ReadsAt, ReadsSome};
-ghost use Rattle.weed_base.specs.System.{Write, CutTo, SettleAll, CallFile, OpenedToSettle, Missed, Made, ActsOnce, ActsOnly, IsSettling, IsOpening, MakeFile, RemoveFile, RenameFile, path_in, directory_above};
+ghost use Rattle.weed_base.specs.System.{Write, CutTo, SettleAll, CallFile, OpenedToSettle, Missed, Made, ActsOnce, ActsOnly, IsSettling, SettlingFailed, IsOpening, MakeFile, RemoveFile, RenameFile, path_in, directory_above};
 ghost use Rattle.weed_base.specs.Awaiting.{Covers, Awaiting, StillAwaits, AwaitsNoMore, IsNamedAt, IsFileAt, IsOpenAs, SettlesInTurn};
 ghost use Rattle.weed_base.specs.Folder.{IsOpenAt, OfFile, OfFileOrMissed, IsCallOf, IsMaking, IsSettledAt, MakesThenSettles, IsListing, OpensOne, IsOpenedFolder, IsSameFolder, KeepsFolder, MarksNoMore, HasMade, HasRemoved, HasRenamed, NamesMayHaveChanged, SettlesFiles, IsSettledWhole, path_of};
 
@@ -151,7 +151,8 @@ impl<F: SystemFile + Drop> Folder<F> {
         system: &R,
         alloc: Global,
     ) -> io::Result<Vec<FileName>>
-        ensures { IfOk result (λ names. IsListing R.answered names.items self.now) }
+        ensures names { IfOk result (λ names. IsListing R.answered names.items self.now) }
+        ensures failed { OnErr result (R.unlisted (string_bytes self.now.path)) }
     {
         let mut names = system.list(alloc, self.path.as_str())?;
         names.sort_unstable();
@@ -356,6 +357,7 @@ impl<F: SystemFile + Drop> Folder<F> {
     pub(crate) fn sync<R: System<File = F>>(&mut self, system: &mut R) -> io::Result<()>
         ensures falls { SettlesFiles R.file_answered self.old self.new }
         ensures settled { OnOk result (IsSettledWhole self.new) }
+        ensures failed { OnErr result (SettlingFailed R.failed) }
         ensures same { IsSameFolder self.old self.new }
         ensures turns { SettlesInTurn R.one_act self.old.kept system.old system.new }
         ensures acts { ActsOnly R.one_act IsSettling system.old system.new }

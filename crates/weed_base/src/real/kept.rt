@@ -1,8 +1,8 @@
 //! The open files of a directory, and what they await of the next sync.
-ghost use Rattle.std.specs.Prelude.{◌≡◌, ◌≤◌, ◌<◌, ◌+◌, ◌^◌, ◌⊎◌, ℕ, List, [], length, true, false, IfOk, OnOk};
+ghost use Rattle.std.specs.Prelude.{◌≡◌, ◌≤◌, ◌<◌, ◌+◌, ◌^◌, ◌⊎◌, ℕ, List, [], length, true, false, IfOk, OnOk, OnErr};
 ghost use Rattle.std.specs.List.{All, AllZip, position};
 ghost use Rattle.std.specs.Str.{bytes_eq};
-ghost use Rattle.weed_base.specs.System.{Write, CutTo, SettleAll, CallFile, ActsOnce, ActsOnly, IsSettling};
+ghost use Rattle.weed_base.specs.System.{Write, CutTo, SettleAll, CallFile, ActsOnce, ActsOnly, IsSettling, SettlingFailed};
 ghost use Rattle.weed_base.specs.Awaiting.{Covers, Awaiting, StillAwaits, AwaitsNoMore, IsNamedAt, IsFileAt, IsOpenAs, OpensNone, FallsByAnswer, SettlesBy, SettlesFirst, SettlesInTurn, AwaitsSomething, AwaitsNothing, without, AreRenamed};
 ghost use Rattle.weed_base.specs.declared.real.kept.Awaits.{Awaits};
 ghost use Rattle.weed_base.specs.declared.real.kept.Awaits.TheVariants.{Nothing, Data, Everything};
@@ -48,6 +48,7 @@ impl<F: SystemFile + Drop> KeptFile<F> {
     fn sync<R: System<File = F>>(&mut self, system: &mut R) -> io::Result<()>
         ensures mark { FallsByAnswer R.file_answered self.old self.new }
         ensures settled { OnOk result (AwaitsNothing self.new) }
+        ensures failed { OnErr result (SettlingFailed R.failed) }
         ensures once { SettlesBy R.one_act self.old.awaits self.old.file system.old system.new }
         ensures acts { ActsOnce R.one_act IsSettling system.old system.new }
     {
@@ -106,6 +107,7 @@ fn sync_each<F: SystemFile + Drop, R: System<File = F>>(
 ) -> io::Result<()>
     ensures marks { AllZip (FallsByAnswer R.file_answered) files.old files.new }
     ensures settled { OnOk result (All AwaitsNothing files.new) }
+    ensures failed { OnErr result (SettlingFailed R.failed) }
     ensures turns { (count : ℕ) × (count ≤ length files.old) × SettlesFirst R.one_act files.old count system.old system.new }
     ensures acts { ActsOnly R.one_act IsSettling system.old system.new }
 {
@@ -268,6 +270,7 @@ impl<F: SystemFile + Drop> KeptFiles<F> {
         ensures marks { AllZip (FallsByAnswer R.file_answered) self.old.files.items self.new.files.items }
         ensures names { (self.new.names_await ≡ self.old.names_await) ⊎ ((self.new.names_await ≡ false) × R.file_answered SettleAll self.old.directory) }
         ensures settled { OnOk result (All AwaitsNothing self.new.files.items × (self.new.names_await ≡ false)) }
+        ensures failed { OnErr result (SettlingFailed R.failed) }
         ensures directory { self.new.directory ≡ self.old.directory }
         ensures turns { SettlesInTurn R.one_act self.old system.old system.new }
         ensures acts { ActsOnly R.one_act IsSettling system.old system.new }

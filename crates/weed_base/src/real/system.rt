@@ -1,7 +1,7 @@
 //! The system's files: the edge where proof ends. What a call of them did no contract can see. That it was made, with
 //! what, and answered Ok, the code above knows from these two traits alone; their bodies for the real system are a
 //! call or a few of std each.
-ghost use Rattle.std.specs.Prelude.{◌≡◌, ◌≤◌, ◌<◌, ◌^◌, ℕ, List, ⊤, length, Option, None, IfOk, IfSome, OnOk, MatchOption};
+ghost use Rattle.std.specs.Prelude.{◌≡◌, ◌≤◌, ◌<◌, ◌^◌, ℕ, List, ⊤, length, Option, None, IfOk, IfSome, OnOk, OnErr, MatchOption};
 ghost use Rattle.weed_base.specs.Files.{ReadsSome};
 ghost use Rattle.weed_base.specs.System.{Act, CallFile, MakeDirectory, MakeFile, RemoveFile, RenameFile, FileCall, Write, CutTo, SettleData, SettleAll, PathCall, MadeDirectory, OpenedToSettle, Opened, Missed, Made, Removed, Renamed, Listed};
 
@@ -56,6 +56,12 @@ pub trait System {
     /// That it answered Ok to a call of an open file.
     ghost file_answered: { FileCall → Self.File → Type 0 };
 
+    /// That an act failed.
+    ghost failed: { Act Self.File → Type 0 };
+
+    /// That it couldn't list a directory.
+    ghost unlisted: { List ℕ → Type 0 };
+
     /// That one act led from here to there. Generic code has this from the call alone.
     ghost one_act: { Self → Self → Act Self.File → Type 0 };
 
@@ -89,7 +95,8 @@ pub trait System {
 
     /// The names of files in a directory, in any order. Other names are left out.
     fn list(&self, alloc: Global, path: &str) -> io::Result<Vec<FileName>>
-        ensures { IfOk result (λ names. answered (Listed path.now names.items)) };
+        ensures listed { IfOk result (λ names. answered (Listed path.now names.items)) }
+        ensures failed { OnErr result (unlisted path.now) };
 
     /// Writes all of the piece to the file, from byte `at` on.
     fn write_piece(&mut self, file: &Self::File, at: u64, piece: &[u8]) -> io::Result<()>
@@ -104,11 +111,13 @@ pub trait System {
     /// Settles the file's bytes, and its length.
     fn settle_data(&mut self, file: &Self::File) -> io::Result<()>
         ensures settled { OnOk result (file_answered SettleData file.now) }
+        ensures failed { OnErr result (failed (CallFile file.now SettleData)) }
         ensures once { one_act self.old self.new (CallFile file.now SettleData) };
 
     /// Settles all of the file, and of a directory the names.
     fn settle_all(&mut self, file: &Self::File) -> io::Result<()>
         ensures settled { OnOk result (file_answered SettleAll file.now) }
+        ensures failed { OnErr result (failed (CallFile file.now SettleAll)) }
         ensures once { one_act self.old self.new (CallFile file.now SettleAll) };
 }
 
@@ -118,6 +127,10 @@ impl<R: Files<File = File> + AllocGlobal + Clone + Drop> System for R {
     ghost answered = { λ _. ⊤ };
 
     ghost file_answered = { λ _ _. ⊤ };
+
+    ghost failed = { λ _. ⊤ };
+
+    ghost unlisted = { λ _. ⊤ };
 
     ghost one_act = { λ _ _ _. ⊤ };
 

@@ -21,7 +21,7 @@ returns-clause-opened g c =
       names = subst (λ (it : g.row.F.Denot). g.R.System.file_answered SettleAll it) (sym c.new.ensures.directory) c.in_ok-settle_all.ensures.settled;
       files = (
         names,
-        subst (λ (path : List ℕ). answered (Listed path names)) is c.in_ok-names.ensures,
+        subst (λ (path : List ℕ). answered (Listed path names)) is c.in_ok-names.ensures.listed,
         subst (λ (path : List ℕ). All (λ name. settled (path_in path name)) names) is
             (subst (λ (items : List (List ℕ)). All (λ name. settled (path_in c.in_ok-path.path.now name)) items) c.as_slice.ensures.value c.in_ok-settle_each.ensures.settled),
       );
