@@ -13,16 +13,16 @@ pub record IsCollected (bytes : List ℕ) (gate at most room had : ℕ) (first t
   pub same : batch_from most room 0 first ≡ texts ++ batch_from most (room - length texts) had left
 
 -- one more of the batch
-batch_more : (most room had : ℕ) (text : List ℕ) (rest : List (List ℕ)) → had < most → batch_from most (suc room) had (text ∷ rest) ≡ text ∷ batch_from most room (had + length text) rest
+pub batch_more : (most room had : ℕ) (text : List ℕ) (rest : List (List ℕ)) → had < most → batch_from most (suc room) had (text ∷ rest) ≡ text ∷ batch_from most room (had + length text) rest
 batch_more most room had text rest within = grind (arith, nat_tests)
 
 -- none more
-batch_full : (most room had : ℕ) (rest : List (List ℕ)) → most ≤ had → batch_from most room had rest ≡ []
+pub batch_full : (most room had : ℕ) (rest : List (List ℕ)) → most ≤ had → batch_from most room had rest ≡ []
 batch_full most zero had rest full = refl
 batch_full most (suc room) had [] full = refl
 batch_full most (suc room) had (text ∷ rest) full = grind (arith, nat_tests)
 
-batch_none : (most room had : ℕ) → batch_from most room had [] ≡ []
+pub batch_none : (most room had : ℕ) → batch_from most room had [] ≡ []
 batch_none most zero had = refl
 batch_none most (suc room) had = refl
 

@@ -17,11 +17,13 @@ pub mod RecordLogs
 pub mod Lefts
 pub mod Faulted
 pub mod Collected
+pub mod Stands
 pub mod Fetched
 pub mod Skipped
 pub mod Batches
 pub mod Damage
 pub mod RecordPlaces
+pub mod Passed
 pub mod Crashes
 pub mod RecordCrashes
 pub mod OpenCrashes

@@ -6,7 +6,7 @@ use Rattle.name_core.specs.Log.{TimesRise}
 use Rattle.meta_log.specs.Held.{IsHeld}
 use Rattle.meta_log.specs.Records.{ReadAs, front_of_records}
 use Rattle.meta_log.specs.Kept.{IsKept, Keeps}
-use Rattle.meta_log.specs.Places.{place_behind, IsNext}
+use Rattle.meta_log.specs.Places.{place_behind, HoldsPlace, IsNext}
 use Rattle.meta_log.specs.RecordPlaces.{LiesBetween, KeepsPlace, AreNext}
 use Rattle.meta_log.specs.declared.meta_log.MetaLog.{MetaLog}
 use Rattle.meta_log.specs.declared.place.Place.{Place}
@@ -80,3 +80,8 @@ told_behind_records None now meta place next room texts same keeps is = subst (�
 told_behind_records (Some files) now meta place next room texts same keeps is =
     let found = next_lies files meta place next room texts is keeps.0 keeps.1 keeps.2 in
     subst (λ o. KeepsPlace o meta next) (sym same) (keeps.0 ++ take room keeps.1, drop room keeps.1, found.2)
+
+-- What lies between records lies between payloads.
+pub keeps_holds : (told : Option Files) (meta : MetaLog) (place : Place) → KeepsPlace told meta place → HoldsPlace told meta.log place
+keeps_holds None meta place keeps = tt
+keeps_holds (Some files) meta place keeps = let lies = keeps.2 in (lies.before, lies.past, subst (IsHeld files meta.log) lies.split lies.kept.held, lies.place_is)

@@ -1,11 +1,13 @@
 -- A log of records that was opened, its disk, and the records that they stand for.
-use Rattle.std.specs.Prelude.{◌≡◌, ℕ, ◌≤◌, ◌<◌, ◌⊎◌, List, [], ◌∷◌, ◌++◌, All, Option, IfSome}
+use Rattle.std.specs.Prelude.{◌≡◌, ℕ, ◌≤◌, ◌<◌, ◌⊎◌, ◌+◌, List, [], ◌∷◌, ◌++◌, length, All, Option, IfSome}
 use Rattle.weed_base.specs.Files.{Files}
 use Rattle.name_core.specs.declared.change.Record.{Record}
 use Rattle.name_core.specs.Log.{TimesRise}
 use Rattle.meta_log.specs.LogText.{HasDamage, IsLogText}
 use Rattle.meta_log.specs.Held.{IsHeld}
-use Rattle.meta_log.specs.Left.{batch}
+use Rattle.meta_log.specs.Segment.{items}
+use Rattle.meta_log.specs.Left.{batch, StandFrom, BreaksAt, FillsOrEnds}
+use Rattle.meta_log.specs.Skip.{PassesTo, StopsAt, NoRecordAt}
 use Rattle.meta_log.specs.Records.{front_of_records, ReadAs, AreRecords}
 use Rattle.meta_log.specs.declared.stem.Stem.TheVariants.{Log}
 use Rattle.meta_log.specs.declared.meta_log.MetaLog.{MetaLog}
@@ -65,3 +67,20 @@ IsPast told meta after room texts =
     IfSome told (λ files. (before past : List (List ℕ)) (old new : List Record) → IsHeld files meta.log (before ++ past)
     → ReadAs before old → ReadAs past new → All (λ r. r.time ≤ after) old → All (λ r. after < r.time) new
     → texts ≡ batch room past)
+
+-- Texts of records up to the time stand at the front of any bytes; behind them the first that is past it, or the
+-- gate; and from there on these texts, which are a whole batch.
+pub record ReadsAfter (bytes : List ℕ) (gate after room : ℕ) (texts : List (List ℕ)) : Type 0 where
+  pub at : ℕ
+  pub passed : PassesTo bytes gate after 0 at
+  pub stops : StopsAt bytes gate after at
+  pub stand : StandFrom bytes gate at texts
+  pub few : batch room texts ≡ texts
+  pub whole : FillsOrEnds room 67108864 gate (at + length (items texts)) texts
+
+-- Behind those up to the time no text of a record stands at this place, or behind further texts, which aren't a
+-- whole batch, no item.
+abbrev pub BreaksAfter : List ℕ → ℕ → ℕ → ℕ → ℕ → Type 0
+BreaksAfter bytes gate after room at =
+    (PassesTo bytes gate after 0 at × (at < gate) × NoRecordAt bytes at)
+    ⊎ ((from : ℕ) × PassesTo bytes gate after 0 from × StopsAt bytes gate after from × BreaksAt bytes gate room 67108864 from at)

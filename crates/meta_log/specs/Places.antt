@@ -1,8 +1,9 @@
 -- Places in a log, and what is read from one on.
-use Rattle.std.specs.Prelude.{◌≡◌, ℕ, List, ◌++◌, length, take, Option, IfSome}
+use Rattle.std.specs.Prelude.{◌≡◌, ℕ, ◌+◌, ◌≤◌, List, ◌++◌, length, take, min, Option, IfSome}
 use Rattle.weed_base.specs.Files.{Files}
 use Rattle.meta_log.specs.Segment.{items}
 use Rattle.meta_log.specs.Held.{IsHeld}
+use Rattle.meta_log.specs.Left.{StandFrom}
 use Rattle.meta_log.specs.declared.gate_log.GateLog.{GateLog}
 use Rattle.meta_log.specs.declared.place.Place.{Place}
 
@@ -20,3 +21,13 @@ abbrev pub IsNext : Option Files → GateLog → Place → ℕ → List (List �
 IsNext told log place room texts next =
     IfSome told (λ files. (before past : List (List ℕ)) → IsHeld files log (before ++ past) → place ≡ place_behind before
     → (texts ≡ take room past) × (next ≡ place_behind (before ++ take room past)))
+
+-- Where a reading from the place on begins: there, or at the end of a file that is shorter.
+abbrev pub begins_at : List ℕ → Place → ℕ
+begins_at bytes place = min place.at (length bytes)
+
+-- From the place on these texts stand before the gate, at most so many, and the next place is right behind them.
+pub record ReadsFrom (bytes : List ℕ) (gate : ℕ) (place : Place) (room : ℕ) (texts : List (List ℕ)) (next : Place) : Type 0 where
+  pub stand : StandFrom bytes gate (begins_at bytes place) texts
+  pub few : length texts ≤ room
+  pub next_is : next ≡ record { segment = 1; at = begins_at bytes place + length (items texts) }

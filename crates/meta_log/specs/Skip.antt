@@ -1,8 +1,9 @@
 -- Records that are skipped by their time.
 use Rattle.std.specs.Prelude.{◌≡◌, ℕ, ◌+◌, ◌≤◌, ◌<◌, ◌⊎◌, Bool, List, ◌++◌, length, take, drop, All, MatchBool}
 use Rattle.name_core.specs.declared.change.Record.{Record}
-use Rattle.meta_log.specs.Left.{IsLeft}
-use Rattle.meta_log.specs.Records.{ReadsAs, ReadAs}
+use Rattle.meta_log.specs.Segment.{items}
+use Rattle.meta_log.specs.Left.{IsLeft, StandsAt, StandFrom}
+use Rattle.meta_log.specs.Records.{ReadsAs, ReadAs, IsNoRecord}
 use Rattle.meta_log.specs.Stretch.{Stretch}
 
 -- What is left are records up to that time, and behind them these payloads.
@@ -50,3 +51,21 @@ HoldsLate after held = (size : ℕ) × (known : Record) × (5 + size ≤ length 
 -- The gate is reached, or a record past the time stands there.
 abbrev pub EndsOrHoldsLate : ℕ → ℕ → ℕ → List ℕ → Type 0
 EndsOrHoldsLate gate after at held = (gate ≤ at) ⊎ HoldsLate after held
+
+-- From one place up to another stand texts of records up to that time, each before the gate.
+pub record PassesTo (bytes : List ℕ) (gate after from at : ℕ) : Type 0 where
+  pub texts : List (List ℕ)
+  pub records : List Record
+  pub stand : StandFrom bytes gate from texts
+  pub read : ReadAs texts records
+  pub early : All (λ r. r.time ≤ after) records
+  pub place : at ≡ from + length (items texts)
+
+-- The gate is reached, or the text of a record past the time stands there.
+abbrev pub StopsAt : List ℕ → ℕ → ℕ → ℕ → Type 0
+StopsAt bytes gate after at =
+    (gate ≤ at) ⊎ ((text : List ℕ) × (known : Record) × StandsAt bytes at text × ReadsAs text known × (after < known.time))
+
+-- No text of a record stands there.
+abbrev pub NoRecordAt : List ℕ → ℕ → Type 0
+NoRecordAt bytes at = (text : List ℕ) → StandsAt bytes at text → IsNoRecord text

@@ -1,6 +1,6 @@
 ghost use Rattle.std.specs.Prelude.{◌≡◌, ◌≤◌, ◌<◌, ◌+◌, ◌-◌, ◌^◌, ◌⊎◌, ◌++◌, ◌∷◌, [], List, length, ℕ, Err, IfOk, OnOk, IfErr, OnErr, IsErrOf, IfSome, None, Some};
 ghost use Rattle.weed_base.specs.Told.{HasCause, IsCauseOf};
-ghost use Rattle.weed_base.specs.Files.{BothTold, Files};
+ghost use Rattle.weed_base.specs.Files.{BothTold, Files, content};
 ghost use Rattle.weed_base.specs.Images.{LeavesOnly, OnlyReads};
 ghost use Rattle.weed_base.specs.Beside.{StaysBeside};
 ghost use Rattle.meta_log.specs.Making.{LeavesOthers};
@@ -30,7 +30,8 @@ impl GateLog {
     ghost use Rattle.meta_log.specs.Held.{Holds, HoldsLog, HoldsText, HoldsEither, IsHeld, IsOpened, stem_of, gate_of, IsEither};
     ghost use Rattle.meta_log.specs.Images.{ComesBy, ImagesHold, IsMadeFrom, HasListOf};
     ghost use Rattle.meta_log.specs.Faults.{IfDamaged};
-    ghost use Rattle.meta_log.specs.Places.{place_behind, HoldsPlace, IsNext};
+    ghost use Rattle.meta_log.specs.Left.{BreaksAt};
+    ghost use Rattle.meta_log.specs.Places.{place_behind, HoldsPlace, IsNext, begins_at, ReadsFrom};
 
     /// Opens the log of a disk, and makes its first segment where none counts. Syncs first. Where the files are no
     /// log, `Damaged` names the first file and place to blame, and nothing is changed.
@@ -112,7 +113,8 @@ impl GateLog {
         Place { segment: 1, at: 0 }
     }
 
-    /// The next payloads from a place on, at most `room`, and the place behind them.
+    /// The next payloads from a place on, at most `room`, and the place behind them. Over files that hold the log
+    /// nothing is damaged.
     pub fn read_from<D: Disk>(
         &self,
         alloc: Global,
@@ -120,10 +122,16 @@ impl GateLog {
         place: Place,
         room: u32,
     ) -> Result<(Items<LogText>, Place), LogFault>
-        requires { HoldsPlace (D.files disk.old) self.now place }
         ensures next { IfOk result (λ read. IsNext (D.files disk.old) self.now place room read.0 read.1) }
-        ensures behind { IfOk result (λ read. HoldsPlace (D.files disk.new) self.now read.1) }
-        ensures damaged { IfErr result (IfDamaged (λ _ _. D.files disk.old ≡ None)) }
+        ensures behind { IfOk result (λ read. HoldsPlace (D.files disk.old) self.now place → HoldsPlace (D.files disk.new) self.now read.1) }
+        ensures damaged { IfErr result (IfDamaged (λ _ _. HoldsPlace (D.files disk.old) self.now place → D.files disk.old ≡ None)) }
+
+        // Whatever the file holds, what is read stands there, and damage is named where no item stands behind it.
+        ensures reads { IfOk result (λ read. IfSome (D.files disk.old) (λ files.
+            ReadsFrom (content files (segment_name (stem_of self.now) 1)) (gate_of self.now) place room read.0 read.1)) }
+        ensures breaks { IfErr result (IfDamaged (λ _ at. IfSome (D.files disk.old) (λ files.
+            BreaksAt (content files (segment_name (stem_of self.now) 1)) (gate_of self.now) room (2 ^ 64 - 1)
+            (begins_at (content files (segment_name (stem_of self.now) 1)) place) at))) }
 
         // Over any disk the room is filled or the gate is reached, by no more than the texts that are handed on, and
         // damage is one of the log's file, before its gate.

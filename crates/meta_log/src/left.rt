@@ -5,7 +5,7 @@ ghost use Rattle.weed_base.specs.Images.{OnlyReads};
 ghost use Rattle.weed_base.specs.Beside.{StaysBeside};
 ghost use Rattle.meta_log.specs.Stretch.{IsOf};
 ghost use Rattle.meta_log.specs.Head.{HasItem};
-ghost use Rattle.meta_log.specs.Left.{among_items, IsLeft, MeetsNext, TakesNext, batch_from, FillsOrEnds};
+ghost use Rattle.meta_log.specs.Left.{among_items, IsLeft, MeetsNext, TakesNext, batch_from, FillsOrEnds, StandsAt, NoItemAt, StandFrom, IsHeadAt, BreaksAt};
 ghost use Rattle.meta_log.specs.LogText.{segment_name};
 ghost use Rattle.meta_log.specs.Segment.{items};
 ghost use Rattle.meta_log.specs.Faults.{IfDamaged};
@@ -48,6 +48,7 @@ pub fn left_head<D: Disk>(
     ensures of { IfOk result (λ _. IfSome (D.files disk.old) (λ files. IsOf (content files name.now) reading.new)) }
     ensures meets { IfOk result (λ head. IfSome (D.files disk.old) (λ files.
         (left : List (List ℕ)) → IsLeft (content files name.now) gate reading.old.at left → MeetsNext left head)) }
+    ensures here { IfOk result (λ head. IfSome (D.files disk.old) (λ files. IsHeadAt (content files name.now) gate reading.old.at head)) }
     ensures closed { IfOk result (λ head. (head ≡ Head.Closed) ↔ (gate ≤ reading.new.at)) }
     ensures there { IfOk result (HasItem reading.new.held) }
     ensures place { IfOk result (λ _. (reading.new.at ≡ reading.old.at) × (reading.new.size ≡ reading.old.size)) }
@@ -76,11 +77,14 @@ fn take_text<D: Disk>(
     ensures of { IfOk result (λ _. IfSome (D.files disk.old) (λ files. IsOf (content files name.now) reading.new)) }
     ensures takes { IfOk result (λ taken. IfSome (D.files disk.old) (λ files.
         (left : List (List ℕ)) → IsLeft (content files name.now) gate reading.old.at left → TakesNext (content files name.now) gate reading.new.at left taken)) }
+    ensures stands { IfOk result (λ taken. IfSome (D.files disk.old) (λ files.
+        MatchOption taken (gate ≤ reading.old.at) (λ text. (reading.old.at < gate) × StandsAt (content files name.now) reading.old.at text))) }
     ensures ended { IfOk result (λ taken. taken ≡ None → gate ≤ reading.new.at) }
     ensures place { IfOk result (λ taken. MatchOption taken (reading.new.at ≡ reading.old.at)
         (λ text. (reading.new.at ≡ reading.old.at + (5 + length text)) × (reading.new.at < 2 ^ 64))) }
     ensures damaged { IfErr result (IfDamaged (λ _ _. IfSome (D.files disk.old) (λ files.
         (left : List (List ℕ)) → ¬ IsLeft (content files name.now) gate reading.old.at left))) }
+    ensures breaks { IfErr result (IfDamaged (λ _ at. (at ≡ reading.old.at) × IfSome (D.files disk.old) (λ files. NoItemAt (content files name.now) at))) }
     ensures blamed { IfErr result (IfDamaged (λ file at. (file ≡ name.now) × (at ≡ reading.new.at) × (at < gate))) }
     ensures files { D.files disk.new ≡ D.files disk.old }
     ensures still { OnlyReads D.tick D.images D.image_since disk.old disk.new }
@@ -112,10 +116,13 @@ pub fn collect<D: Disk>(
     requires of { IfSome (D.files disk.old) (λ files. IsOf (content files name.now) reading.old) }
     ensures texts { IfOk result (λ texts. IfSome (D.files disk.old) (λ files.
         (left : List (List ℕ)) → IsLeft (content files name.now) gate reading.old.at left → texts.items ≡ batch_from most room 0 left)) }
+    ensures stand { IfOk result (λ texts. IfSome (D.files disk.old) (λ files. StandFrom (content files name.now) gate reading.old.at texts.items)) }
+    ensures few { IfOk result (λ texts. batch_from most room 0 texts.items ≡ texts.items) }
     ensures whole { IfOk result (λ texts. FillsOrEnds room most gate reading.new.at texts.items) }
     ensures place { IfOk result (λ texts. reading.new.at ≡ reading.old.at + length (items texts.items)) }
     ensures damaged { IfErr result (IfDamaged (λ _ _. IfSome (D.files disk.old) (λ files.
         (left : List (List ℕ)) → ¬ IsLeft (content files name.now) gate reading.old.at left))) }
+    ensures breaks { IfErr result (IfDamaged (λ _ at. IfSome (D.files disk.old) (λ files. BreaksAt (content files name.now) gate room most reading.old.at at))) }
     ensures blamed { IfErr result (IfDamaged (λ file at. (file ≡ name.now) × (at ≡ reading.new.at) × (at < gate))) }
     ensures files { D.files disk.new ≡ D.files disk.old }
     ensures still { OnlyReads D.tick D.images D.image_since disk.old disk.new }

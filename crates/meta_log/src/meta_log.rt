@@ -1,6 +1,6 @@
-ghost use Rattle.std.specs.Prelude.{◌≡◌, ◌<◌, ◌≤◌, ◌+◌, ◌⊎◌, ◌++◌, ◌∷◌, [], List, length, ℕ, Bool, false, None, Some, Err, IfOk, OnOk, IfErr, OnErr, IsErrOf, IfSome};
+ghost use Rattle.std.specs.Prelude.{◌≡◌, ◌<◌, ◌≤◌, ◌+◌, ◌⊎◌, ◌++◌, ◌∷◌, ◌-◌, ◌^◌, [], List, length, ℕ, Bool, false, None, Some, Err, IfOk, OnOk, IfErr, OnErr, IsErrOf, IfSome};
 ghost use Rattle.weed_base.specs.Told.{HasCause, IsCauseOf};
-ghost use Rattle.weed_base.specs.Files.{BothTold, Files};
+ghost use Rattle.weed_base.specs.Files.{BothTold, Files, content};
 ghost use Rattle.weed_base.specs.Images.{LeavesOnly, OnlyReads};
 ghost use Rattle.weed_base.specs.Beside.{StaysBeside};
 ghost use Rattle.name_core.specs.declared.change.Record.{Record};
@@ -40,9 +40,10 @@ pub struct MetaLog {
 impl MetaLog {
     ghost use Rattle.meta_log.specs.Faults.{IfDamaged};
     ghost use Rattle.meta_log.specs.Held.{gate_of, HoldsText, HoldsEither};
-    ghost use Rattle.meta_log.specs.Kept.{front_of, IsRecordLog, HoldsRecordLog, Keeps, HoldsRecords, HoldsEitherLog, IsOpenedFrom, IsKept, IsRecordDamage, IsPast, IsEitherLog};
+    ghost use Rattle.meta_log.specs.Kept.{front_of, IsRecordLog, HoldsRecordLog, Keeps, HoldsRecords, HoldsEitherLog, IsOpenedFrom, IsKept, IsRecordDamage, IsPast, IsEitherLog, ReadsAfter, BreaksAfter};
     ghost use Rattle.meta_log.specs.Images.{ComesBy, ImagesKeep, IsMadeFrom, HasLogOf, IsOwn};
-    ghost use Rattle.meta_log.specs.Places.{place_behind};
+    ghost use Rattle.meta_log.specs.Left.{BreaksAt};
+    ghost use Rattle.meta_log.specs.Places.{place_behind, begins_at, ReadsFrom};
     ghost use Rattle.meta_log.specs.RecordPlaces.{KeepsPlace, AreNext};
 
     /// Opens the log of records of a disk, and makes its first segment where none counts. Syncs first. Where the
@@ -140,7 +141,7 @@ impl MetaLog {
     }
 
     /// The texts of the first records past a time: at most `room`, and no more once they reach
-    /// 67,108,864 bytes. `Damaged` comes only over a disk that tells no files.
+    /// 67,108,864 bytes. Over files that hold the log nothing is damaged.
     pub fn read_after<D: Disk>(
         &self,
         alloc: Global,
@@ -148,10 +149,16 @@ impl MetaLog {
         after: u64,
         room: u32,
     ) -> Result<Items<LogText>, LogFault>
-        requires { Keeps (D.files disk.old) self.now }
         ensures past { IfOk result (λ texts. IsPast (D.files disk.old) self.now after room texts) }
-        ensures damaged { IfErr result (IfDamaged (λ _ _. D.files disk.old ≡ None)) }
+        ensures damaged { IfErr result (IfDamaged (λ _ _. Keeps (D.files disk.old) self.now → D.files disk.old ≡ None)) }
         ensures blamed { IfErr result (IfDamaged (λ file at. (file ≡ segment_name Log 1) × (at < gate_of self.now.log))) }
+
+        // Whatever the file holds, what is read stands there behind what is passed over, and damage is named where no
+        // item stands behind those, or one that is no record's.
+        ensures reads { IfOk result (λ texts. IfSome (D.files disk.old) (λ files.
+            ReadsAfter (content files (segment_name Log 1)) (gate_of self.now.log) after room texts)) }
+        ensures breaks { IfErr result (IfDamaged (λ _ at. IfSome (D.files disk.old) (λ files.
+            BreaksAfter (content files (segment_name Log 1)) (gate_of self.now.log) after room at))) }
 
         ensures files { D.files disk.new ≡ D.files disk.old }
         ensures still { OnlyReads D.tick D.images D.image_since disk.old disk.new }
@@ -182,7 +189,7 @@ impl MetaLog {
     }
 
     /// The texts of the next records from a place on, and the place behind them: at most `room`, however
-    /// many bytes they have. `Damaged` comes only over a disk that tells no files.
+    /// many bytes they have. Over files that hold the log nothing is damaged.
     pub fn read_from<D: Disk>(
         &self,
         alloc: Global,
@@ -190,10 +197,15 @@ impl MetaLog {
         place: Place,
         room: u32,
     ) -> Result<(Items<LogText>, Place), LogFault>
-        requires { KeepsPlace (D.files disk.old) self.now place }
         ensures next { IfOk result (λ read. AreNext (D.files disk.old) self.now place room read.0 read.1) }
-        ensures behind { IfOk result (λ read. KeepsPlace (D.files disk.new) self.now read.1) }
-        ensures damaged { IfErr result (IfDamaged (λ _ _. D.files disk.old ≡ None)) }
+        ensures behind { IfOk result (λ read. KeepsPlace (D.files disk.old) self.now place → KeepsPlace (D.files disk.new) self.now read.1) }
+        ensures damaged { IfErr result (IfDamaged (λ _ _. KeepsPlace (D.files disk.old) self.now place → D.files disk.old ≡ None)) }
+
+        // Whatever the file holds, what is read stands there, and damage is named where no item stands behind it.
+        ensures reads { IfOk result (λ read. IfSome (D.files disk.old) (λ files.
+            ReadsFrom (content files (segment_name Log 1)) (gate_of self.now.log) place room read.0 read.1)) }
+        ensures breaks { IfErr result (IfDamaged (λ _ at. IfSome (D.files disk.old) (λ files.
+            BreaksAt (content files (segment_name Log 1)) (gate_of self.now.log) room (2 ^ 64 - 1) (begins_at (content files (segment_name Log 1)) place) at))) }
 
         // Over any disk the room is filled or the gate is reached, by no more than the texts that are handed on, and
         // damage is one of the log's file, before its gate.

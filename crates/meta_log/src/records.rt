@@ -1,11 +1,11 @@
-ghost use Rattle.std.specs.Prelude.{◌≡◌, ◌<◌, ◌≤◌, false, IfOk, OnOk, IfErr, IsErrOf, IfSome, MatchOption, MatchResult};
+ghost use Rattle.std.specs.Prelude.{◌≡◌, ◌<◌, ◌≤◌, false, IfOk, OnOk, IfErr, IsErrOf, IfSome, MatchOption, MatchBool, MatchResult};
 ghost use Rattle.std.specs.Bool.{OnTrue};
 ghost use Rattle.weed_base.specs.Told.{IsCauseOf};
 ghost use Rattle.weed_base.specs.Files.{content};
 ghost use Rattle.weed_base.specs.Images.{OnlyReads};
 ghost use Rattle.weed_base.specs.Beside.{StaysBeside};
 ghost use Rattle.meta_log.specs.Stretch.{IsOf};
-ghost use Rattle.meta_log.specs.Skip.{SkipsOne, SkipsTo, NoneAhead, PassesEarly, EndsOrHoldsLate};
+ghost use Rattle.meta_log.specs.Skip.{SkipsOne, SkipsTo, NoneAhead, PassesEarly, EndsOrHoldsLate, PassesTo, StopsAt, NoRecordAt};
 ghost use Rattle.meta_log.specs.Faults.{IfDamaged};
 ghost use Rattle.name_core.specs.declared.change.Record.{Record};
 ghost use Rattle.name_core.specs.Log.{end_of_time};
@@ -55,10 +55,13 @@ fn skip_one<D: Disk>(
     requires { IfSome (D.files disk.old) (λ files. IsOf (content files name.now) reading.old) }
     ensures of { IfOk result (λ _. IfSome (D.files disk.old) (λ files. IsOf (content files name.now) reading.new)) }
     ensures skips { IfOk result (λ skipped. IfSome (D.files disk.old) (λ files. SkipsOne (content files name.now) gate after reading.old.at reading.new.at skipped)) }
+    ensures passes { IfOk result (λ skipped. IfSome (D.files disk.old) (λ files.
+        MatchBool skipped (PassesTo (content files name.now) gate after reading.old.at reading.new.at) ((reading.new.at ≡ reading.old.at) × StopsAt (content files name.now) gate after reading.new.at))) }
     ensures early { IfOk result (λ skipped. OnTrue skipped (PassesEarly after reading.old reading.new)) }
     ensures stops { IfOk result (λ skipped. skipped ≡ false → EndsOrHoldsLate gate after reading.new.at reading.new.held) }
     ensures goes { IfOk result (λ skipped. (reading.new.size ≡ reading.old.size) × OnTrue skipped ((reading.old.at < reading.new.at) × (reading.new.at ≤ reading.new.size))) }
     ensures damaged { IfErr result (IfDamaged (λ _ _. IfSome (D.files disk.old) (λ files. NoneAhead (content files name.now) gate after reading.old.at))) }
+    ensures breaks { IfErr result (IfDamaged (λ _ at. (at ≡ reading.old.at) × IfSome (D.files disk.old) (λ files. NoRecordAt (content files name.now) at))) }
     ensures blamed { IfErr result (IfDamaged (λ file at. (file ≡ name.now) × (at ≡ reading.new.at) × (at < gate))) }
     ensures files { D.files disk.new ≡ D.files disk.old }
     ensures still { OnlyReads D.tick D.images D.image_since disk.old disk.new }
@@ -93,8 +96,12 @@ pub fn skip_past<D: Disk>(
     requires { IfSome (D.files disk.old) (λ files. IsOf (content files name.now) reading.old) }
     ensures of { OnOk result (IfSome (D.files disk.old) (λ files. IsOf (content files name.now) reading.new)) }
     ensures skipped { OnOk result (IfSome (D.files disk.old) (λ files. SkipsTo (content files name.now) gate after reading.old.at reading.new.at)) }
+    ensures passes { OnOk result (IfSome (D.files disk.old) (λ files.
+        PassesTo (content files name.now) gate after reading.old.at reading.new.at × StopsAt (content files name.now) gate after reading.new.at)) }
     ensures stops { OnOk result (EndsOrHoldsLate gate after reading.new.at reading.new.held) }
     ensures damaged { IfErr result (IfDamaged (λ _ _. IfSome (D.files disk.old) (λ files. NoneAhead (content files name.now) gate after reading.old.at))) }
+    ensures breaks { IfErr result (IfDamaged (λ _ at. IfSome (D.files disk.old) (λ files.
+        PassesTo (content files name.now) gate after reading.old.at at × NoRecordAt (content files name.now) at))) }
     ensures blamed { IfErr result (IfDamaged (λ file at. (file ≡ name.now) × (at ≡ reading.new.at) × (at < gate))) }
     ensures files { D.files disk.new ≡ D.files disk.old }
     ensures still { OnlyReads D.tick D.images D.image_since disk.old disk.new }

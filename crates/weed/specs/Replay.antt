@@ -1,9 +1,11 @@
 -- The records of a log, taken one by one into names.
-use Rattle.std.specs.Prelude.{◌≡◌, ◌≤◌, ℕ, List, length, Option, IfSome}
+use Rattle.std.specs.Prelude.{◌≡◌, ◌≤◌, ◌<◌, ◌+◌, ◌-◌, ◌⊎◌, ℕ, List, length, Option, IfSome}
 use Rattle.weed_base.specs.Files.{Files}
 use Rattle.name_core.specs.declared.change.Record.{Record}
 use Rattle.name_core.specs.Namespace.{Namespace, after_changes}
 use Rattle.name_core.specs.Log.{changes_of, fold}
+use Rattle.meta_log.specs.Segment.{items}
+use Rattle.meta_log.specs.Left.{StandFrom, NoItemAt}
 use Rattle.meta_log.specs.Records.{ReadAs}
 use Rattle.meta_log.specs.Kept.{IsKept}
 use Rattle.meta_log.specs.RecordPlaces.{LiesBetween}
@@ -41,3 +43,23 @@ HoldsTaken told log names place left = IfSome told (λ files. IsTaken files log 
 -- Where it is told, all records are taken.
 abbrev pub HoldsNames : Option Files → MetaLog → NameTable → Type 0
 HoldsNames told log names = IfSome told (λ files. (records : List Record) → IsKept files log records → names_of names ≡ fold records)
+
+-- From one place of any bytes up to another stand texts, each before the gate, that were taken into names; of those
+-- that were to be taken so many are left.
+pub record TakesFrom (bytes : List ℕ) (gate from at left less : ℕ) (old new : Namespace) : Type 0 where
+  pub texts : List (List ℕ)
+  pub stand : StandFrom bytes gate from texts
+  pub takes : Takes texts old new
+  pub place : at ≡ from + length (items texts)
+  pub left_is : less ≡ left - length texts
+
+-- Why a place is to blame behind these texts: no item stands there. Or it is 0, and they don't all read as records, or
+-- they reach the gate and are too few.
+abbrev pub BlamesBehind : List ℕ → ℕ → ℕ → ℕ → ℕ → List (List ℕ) → Type 0
+BlamesBehind bytes gate from at left texts =
+    ((at ≡ from + length (items texts)) × (at < gate) × NoItemAt bytes at)
+    ⊎ ((at ≡ 0) × (AreUnreadable texts ⊎ ((gate ≤ from + length (items texts)) × (length texts < left))))
+
+-- From a place on texts stand, each before the gate, and behind them this place is to blame.
+abbrev pub IsToBlame : List ℕ → ℕ → ℕ → ℕ → ℕ → Type 0
+IsToBlame bytes gate from at left = (texts : List (List ℕ)) × StandFrom bytes gate from texts × BlamesBehind bytes gate from at left texts

@@ -1,17 +1,20 @@
-ghost use Rattle.std.specs.Prelude.{◌≡◌, ◌<◌, ◌-◌, ◌∷◌, [], List, None, IfOk, IfErr, IsErrOf, MatchOption, MatchBool, MatchResult};
+ghost use Rattle.std.specs.Prelude.{◌≡◌, ◌<◌, ◌-◌, ◌∷◌, [], List, ℕ, None, IfOk, IfErr, IfSome, IsErrOf, MatchOption, MatchBool, MatchResult};
 ghost use Rattle.std.specs.FinMap.{empty};
 ghost use Rattle.weed_base.specs.Told.{IsCauseOf};
+ghost use Rattle.weed_base.specs.Files.{content};
 ghost use Rattle.weed_base.specs.Images.{OnlyReads};
 ghost use Rattle.weed_base.specs.Beside.{StaysBeside};
 ghost use Rattle.name_core.specs.declared.change.Record.{Record};
 ghost use Rattle.name_core.specs.RecordText.{CanBeWritten};
 ghost use Rattle.meta_log.specs.Faults.{IfDamaged};
-ghost use Rattle.meta_log.specs.Kept.{HoldsRecords, front_of};
+ghost use Rattle.meta_log.specs.Held.{gate_of};
+ghost use Rattle.meta_log.specs.Kept.{Keeps, front_of};
+ghost use Rattle.meta_log.specs.Places.{begins_at};
 ghost use Rattle.meta_log.specs.Records.{ReadsAs, IsRecord, IsNoRecord};
 ghost use Rattle.meta_log.specs.LogText.{segment_name};
 ghost use Rattle.meta_log.specs.declared.stem.Stem.TheVariants.{Log};
 ghost use Rattle.weed.specs.NameTable.{names_of};
-ghost use Rattle.weed.specs.Replay.{Takes, TakesMany, AreUnreadable, HoldsTaken, HoldsNames};
+ghost use Rattle.weed.specs.Replay.{Takes, TakesMany, AreUnreadable, HoldsTaken, HoldsNames, TakesFrom, IsToBlame};
 
 use crate::name_table::NameTable;
 use meta_log::{LogFault, MetaLog, Place};
@@ -31,10 +34,16 @@ struct Rest {
 
 /// The names that the records of a log leave.
 pub fn replay<D: Disk>(alloc: Global, disk: &mut D, log: &MetaLog) -> Result<NameTable, LogFault>
-    requires { (records : List Record) × HoldsRecords (D.files disk.old) log.now records }
     ensures names { IfOk result (HoldsNames (D.files disk.new) log.now) }
     ensures all { IfOk result (λ names. TakesMany (front_of log.now).count empty (names_of names)) }
-    ensures damaged { IfErr result (IfDamaged (λ _ _. D.files disk.old ≡ None)) }
+    ensures damaged { IfErr result (IfDamaged (λ _ _. Keeps (D.files disk.old) log.now → D.files disk.old ≡ None)) }
+    ensures blamed { IfErr result (IfDamaged (λ file _. file ≡ segment_name Log 1)) }
+
+    // Whatever the file holds, what is taken stands there from its start on, and damage is named as it is met behind it.
+    ensures takes { IfOk result (λ names. IfSome (D.files disk.old) (λ files.
+        (at : ℕ) × TakesFrom (content files (segment_name Log 1)) (gate_of log.now.log) 0 at (front_of log.now).count 0 empty (names_of names))) }
+    ensures breaks { IfErr result (IfDamaged (λ _ at. IfSome (D.files disk.old) (λ files.
+        IsToBlame (content files (segment_name Log 1)) (gate_of log.now.log) 0 at (front_of log.now).count))) }
 
     ensures files { D.files disk.new ≡ D.files disk.old }
     ensures still { OnlyReads D.tick D.images D.image_since disk.old disk.new }
@@ -61,12 +70,16 @@ fn take_page<D: Disk>(
     names: &mut NameTable,
     rest: Rest,
 ) -> Result<Rest, LogFault>
-    requires left { 0 < rest.count }
-    requires taken { HoldsTaken (D.files disk.old) log.now names.old rest.place rest.count }
-    ensures taken { IfOk result (λ less. HoldsTaken (D.files disk.old) log.now names.new less.place less.count) }
+    requires { 0 < rest.count }
+    ensures taken { IfOk result (λ less. HoldsTaken (D.files disk.old) log.now names.old rest.place rest.count → HoldsTaken (D.files disk.old) log.now names.new less.place less.count) }
     ensures less { IfOk result (λ less. less.count < rest.count) }
     ensures page { IfOk result (λ less. TakesMany (rest.count - less.count) (names_of names.old) (names_of names.new)) }
-    ensures damaged { IfErr result (IfDamaged (λ _ _. D.files disk.old ≡ None)) }
+    ensures damaged { IfErr result (IfDamaged (λ _ _. HoldsTaken (D.files disk.old) log.now names.old rest.place rest.count → D.files disk.old ≡ None)) }
+    ensures blamed { IfErr result (IfDamaged (λ file _. file ≡ segment_name Log 1)) }
+    ensures takes { IfOk result (λ less. IfSome (D.files disk.old) (λ files.
+        TakesFrom (content files (segment_name Log 1)) (gate_of log.now.log) (begins_at (content files (segment_name Log 1)) rest.place) less.place.at rest.count less.count (names_of names.old) (names_of names.new))) }
+    ensures breaks { IfErr result (IfDamaged (λ _ at. IfSome (D.files disk.old) (λ files.
+        IsToBlame (content files (segment_name Log 1)) (gate_of log.now.log) (begins_at (content files (segment_name Log 1)) rest.place) at rest.count))) }
 
     ensures files { D.files disk.new ≡ D.files disk.old }
     ensures still { OnlyReads D.tick D.images D.image_since disk.old disk.new }

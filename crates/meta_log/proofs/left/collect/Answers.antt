@@ -1,5 +1,6 @@
-use Rattle.std.proofs.Common.{◌≡◌, ◌+◌, ◌^◌, ◌<◌, ℕ, List, length, inl, inr, subst, ap, ◌∙◌, arith}
+use Rattle.std.proofs.Common.{◌≡◌, ◌+◌, ◌^◌, ◌<◌, ℕ, List, length, inl, inr, subst, sym, ap, ◌∙◌, arith}
 use Rattle.std.specs.Prelude.{IfSome, MatchOption, sum_by}
+use Rattle.meta_log.specs.Left.{batch_from}
 use Rattle.std.proofs.lemmas.Result.{err_from_is_err_and}
 use Rattle.std.proofs.lemmas.List.{length_push}
 use Rattle.std.proofs.lemmas.List.Sums.{sum_by_push}
@@ -8,8 +9,9 @@ use Rattle.weed_base.proofs.ImageLemmas.{reads_both}
 use Rattle.meta_log.specs.Segment.{items}
 use Rattle.meta_log.specs.Stretch.{Stretch, IsOf}
 use Rattle.meta_log.proofs.Frames.{length-items-push, length-ready}
-use Rattle.meta_log.proofs.Faulted.{damaged_on, ok_is_no_fault}
+use Rattle.meta_log.proofs.Faulted.{damaged_on, damaged_both, ok_is_no_fault}
 use Rattle.meta_log.proofs.Collected.{told_goes_on, told_ends_full, told_ends_empty, told_refutes}
+use Rattle.meta_log.proofs.Stands.{told_stand_more, told_breaks, batch_push}
 use Rattle.meta_log.proofs.left.collect.Goals as goal
 use Rattle.meta_log.proofs.left.collect.Goals.{then-taking-test+else-bytes-most, else-taking-test, then-taking-test+then-bytes-most+in_ok-text+in_default}
 
@@ -24,6 +26,14 @@ pub returns-in_err-text-clause-blamed : goal.returns-in_err-text-clause-blamed
 returns-in_err-text-clause-blamed g c =
     let p = err_from_is_err_and c.from_residual.result c.from_residual.ensures.1 in
     damaged_on _ _ c.from_residual.result p.0 c.in_err-text.field-0.0 p.1 p.2 (λ file at blamed. blamed) c.in_err-text.ensures.blamed
+
+pub returns-in_err-text-clause-breaks : goal.returns-in_err-text-clause-breaks
+returns-in_err-text-clause-breaks g c =
+    let p = err_from_is_err_and c.from_residual.result c.from_residual.ensures.1 in
+    damaged_on _ _ c.from_residual.result p.0 c.in_err-text.field-0.0 p.1 p.2
+    (λ file at found. told_breaks (g.D.Disk.files c.args.disk.now) (g.D.Disk.files c.taking.disk) c.args.name.now c.args.gate c.args.room c.args.most c.args.reading.now.at c.taking.reading.at at c.taking.texts.items
+    c.taking.invariant.3 c.taking.invariant.2 (omega (arith, c.taking-test.true, c.len.ensures)) (omega (arith, c.if-bytes-most.true, c.taking.invariant.9)) found.1.2 c.taking.invariant.11 found.0)
+    (damaged_both _ _ c.in_err-text.field-0.0 c.in_err-text.ensures.breaks c.in_err-text.ensures.blamed)
 
 pub returns-clause-whole : goal.returns-clause-whole
 returns-clause-whole g c =
@@ -66,4 +76,7 @@ taking-preserved g c =
       reads_both g.D.Disk.tick g.D.Disk.images g.D.Disk.image_since c.args.disk.now c.taking.disk c.take_text.new.disk c.taking.invariant.8 c.take_text.ensures.still,
       ap (λ (n : ℕ). c.taking.bytes + n) (ap length c.as_slice.ensures) ∙ omega (arith, c.taking.invariant.9, sum_by_push length texts text, ap (λ (l : List (List ℕ)). sum_by length l) pushed),
       c.take_text.ensures.looks ∙ c.taking.invariant.10,
+      told_stand_more told (g.D.Disk.files c.taking.disk) c.args.name.now c.args.gate c.args.reading.now.at c.taking.reading.at texts c.push.new.self.items text c.in_ok-text.field-0
+          c.taking.invariant.3 c.in-Some.is pushed c.taking.invariant.2 c.taking.invariant.11 c.in_ok-text.ensures.stands,
+      subst (λ (l : List (List ℕ)). batch_from c.args.most c.args.room 0 l ≡ l) (sym pushed) (batch_push c.args.most c.args.room 0 texts text (omega (arith, c.taking-test.true, c.len.ensures)) (omega (arith, c.if-bytes-most.true, c.taking.invariant.9))),
     )

@@ -5,7 +5,7 @@ use Rattle.weed_base.specs.Images.{OnlyReads}
 use Rattle.weed_base.specs.Beside.{StaysBeside}
 use Rattle.meta_log.specs.Segment.{items}
 use Rattle.meta_log.specs.Stretch.{IsOf}
-use Rattle.meta_log.specs.Left.{IsLeft}
+use Rattle.meta_log.specs.Left.{IsLeft, StandFrom, batch_from}
 use Rattle.meta_log.proofs.Collected.{IsCollected}
 use Rattle.meta_log.proofs.left.collect.Given as goal
 
@@ -24,6 +24,8 @@ invariant-taking g l =
     × OnlyReads g.D.Disk.tick g.D.Disk.images g.D.Disk.image_since l.fn.disk l.disk
     × (l.bytes ≡ sum_by length l.texts.items)
     × (g.D.Disk.acted l.disk ≡ g.D.Disk.acted l.fn.disk)
+    × IfSome (g.D.Disk.files l.fn.disk) (λ files. StandFrom (content files l.name) l.gate l.fn.reading.at l.texts.items)
+    × (batch_from l.most l.room 0 l.texts.items ≡ l.texts.items)
 
 abbrev pub decreases-taking : goal.decreases-taking
 decreases-taking g l = l.room - length l.texts.items

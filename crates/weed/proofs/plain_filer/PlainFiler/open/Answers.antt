@@ -1,5 +1,6 @@
 use Rattle.std.proofs.Common.{◌≡◌, None}
 use Rattle.std.proofs.lemmas.Result.{err_from_is_err_and}
+use Rattle.meta_log.proofs.Faulted.{IfDamaged-weaker}
 use Rattle.meta_log.specs.Making.{LeavesOthers}
 use Rattle.meta_log.specs.declared.stem.Stem.TheVariants.{Log}
 use Rattle.weed.proofs.FilerLemmas.{filed_from, held_from}
@@ -16,7 +17,8 @@ pub returns-in_err-names-clause-own : goal.returns-in_err-names-clause-own
 returns-in_err-names-clause-own g c files told own =
     let p = err_from_is_err_and c.from_residual-in_err-names.result c.from_residual-in_err-names.ensures.1 in
     let disk = g.D.Disk in
-    rw (p.1, p.2) (undamaged (disk.files c.open.new.disk ≡ None) c.in_err-names.field-0.0 c.in_err-names.ensures.damaged
+    rw (p.1, p.2) (undamaged (disk.files c.open.new.disk ≡ None) c.in_err-names.field-0.0
+    (IfDamaged-weaker _ _ c.in_err-names.field-0.0 (λ file at told_none. told_none c.in_ok-log.ensures.held) c.in_err-names.ensures.damaged)
     (stays_told (LeavesOthers Log) (disk.files c.args.disk.now) (disk.files c.open.new.disk) files told c.open.ensures.others))
 
 pub returns-clause-opened : goal.returns-clause-opened
