@@ -87,6 +87,10 @@ HasDamage Allowed stem files name at =
 abbrev pub IsDamage : Stem → Files → List ℕ → ℕ → Type 0
 IsDamage stem files name at = HasDamage (IsAllowed stem) stem files name at
 
+-- The file is the first segment, or the second: no other is read or named.
+abbrev pub IsBlamable : Stem → List ℕ → Type 0
+IsBlamable stem file = (file ≡ segment_name stem 1) ⊎ (file ≡ segment_name stem 2)
+
 -- A disk that has names of the stem `marks.` alone may keep marks alone.
 abbrev pub MayKeep : Bool → Stem → Type 0
 MayKeep marks_only stem = IsTrue marks_only → stem ≡ Marks

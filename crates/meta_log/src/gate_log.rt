@@ -4,7 +4,7 @@ ghost use Rattle.weed_base.specs.Files.{BothTold, Files, content};
 ghost use Rattle.weed_base.specs.Images.{LeavesOnly, OnlyReads};
 ghost use Rattle.weed_base.specs.Beside.{StaysBeside};
 ghost use Rattle.meta_log.specs.Making.{LeavesOthers};
-ghost use Rattle.meta_log.specs.LogText.{segment_name, AppendsAt, ChangesOnly, Suits, MayKeep, IsDamage, IsLogText};
+ghost use Rattle.meta_log.specs.LogText.{IsBlamable, segment_name, AppendsAt, ChangesOnly, Suits, MayKeep, IsDamage, IsLogText};
 ghost use Rattle.meta_log.specs.Segment.{items};
 
 use crate::fault::LogFault;
@@ -41,6 +41,7 @@ impl GateLog {
         ensures opened { IfOk result (λ log. IsOpened stem (D.files disk.old) (D.files disk.new) log) }
         ensures damaged { IfErr result (IfDamaged (λ file at.
             IfSome (D.files disk.old) (λ files. IsDamage stem files file at) × (D.files disk.new ≡ D.files disk.old))) }
+        ensures blamed { IfErr result (IfDamaged (λ file _. IsBlamable stem file)) }
 
         // Whatever comes of it, the list that the disk holds stays.
         ensures kept { (payloads : List (List ℕ)) → HoldsText stem (D.files disk.old) payloads → HoldsText stem (D.files disk.new) payloads }

@@ -6,7 +6,7 @@ ghost use Rattle.weed_base.specs.Beside.{StaysBeside};
 ghost use Rattle.name_core.specs.declared.change.Record.{Record};
 ghost use Rattle.name_core.specs.Log.{end_of_time};
 ghost use Rattle.meta_log.specs.Making.{LeavesOthers};
-ghost use Rattle.meta_log.specs.LogText.{segment_name, AppendsAt, ChangesOnly};
+ghost use Rattle.meta_log.specs.LogText.{IsBlamable, segment_name, AppendsAt, ChangesOnly};
 ghost use Rattle.meta_log.specs.Segment.{items};
 ghost use Rattle.meta_log.specs.Records.{ReadsAs};
 ghost use Rattle.meta_log.specs.declared.stem.Stem.TheVariants.{Log};
@@ -54,6 +54,7 @@ impl MetaLog {
         ensures opened { IfOk result (λ meta. IsOpenedFrom (D.files disk.old) (D.files disk.new) meta) }
         ensures damaged { IfErr result (IfDamaged (λ file at.
             IfSome (D.files disk.old) (λ files. IsRecordDamage files file at) × (D.files disk.new ≡ D.files disk.old))) }
+        ensures blamed { IfErr result (IfDamaged (λ file _. IsBlamable Log file)) }
 
         // Whatever comes of it, the records that the disk holds stay.
         ensures kept { (records : List Record) → HoldsRecordLog (D.files disk.old) records → HoldsRecordLog (D.files disk.new) records }

@@ -3,7 +3,7 @@ ghost use Rattle.weed_base.specs.Told.{IsCauseOf};
 ghost use Rattle.weed_base.specs.Files.{BothTold, Files};
 ghost use Rattle.weed_base.specs.Images.{Only, LeavesOnly};
 ghost use Rattle.weed_base.specs.Beside.{StaysBeside};
-ghost use Rattle.meta_log.specs.LogText.{HasText, HasDamage, IsAllowed, MayKeep};
+ghost use Rattle.meta_log.specs.LogText.{IsBlamable, HasText, HasDamage, IsAllowed, MayKeep};
 ghost use Rattle.meta_log.specs.Making.{LeavesOthers};
 ghost use Rattle.meta_log.specs.Opening.{IsOpen};
 ghost use Rattle.meta_log.specs.Images.{ComesBy, IsMadeFrom};
@@ -35,6 +35,7 @@ pub fn open_first<D: Disk, C: Check>(
     ensures few { IfOk result (λ gate. C.count check.new ≤ gate) }
     ensures damaged { IfErr result (IfDamaged (λ file at.
         IfSome (D.files disk.old) (λ files. HasDamage C.allowed stem files file at) × (D.files disk.new ≡ D.files disk.old))) }
+    ensures blamed { IfErr result (IfDamaged (λ file _. IsBlamable stem file)) }
     ensures kept { (payloads : List (List ℕ)) → IfSome (D.files disk.old) (λ files. HasText C.allowed stem files payloads)
         → IfSome (D.files disk.new) (λ files. HasText C.allowed stem files payloads) }
     ensures atomic { (files : Files) → D.files disk.old ≡ Some files
@@ -72,6 +73,7 @@ pub fn open_stem<D: Disk>(alloc: Global, disk: &mut D, stem: Stem) -> Result<u64
     ensures bound { IfOk result (λ gate. gate < 2 ^ 64 - 1) }
     ensures damaged { IfErr result (IfDamaged (λ file at.
         IfSome (D.files disk.old) (λ files. HasDamage (IsAllowed stem) stem files file at) × (D.files disk.new ≡ D.files disk.old))) }
+    ensures blamed { IfErr result (IfDamaged (λ file _. IsBlamable stem file)) }
     ensures kept { (payloads : List (List ℕ)) → IfSome (D.files disk.old) (λ files. HasText (IsAllowed stem) stem files payloads)
         → IfSome (D.files disk.new) (λ files. HasText (IsAllowed stem) stem files payloads) }
     ensures atomic { (files : Files) → D.files disk.old ≡ Some files

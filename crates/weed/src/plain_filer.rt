@@ -56,6 +56,7 @@ impl PlainFiler {
     ghost use Rattle.name_core.specs.Log.{fold, last_time};
     ghost use Rattle.name_core.specs.Plan.{plan_of, Recorded};
     ghost use Rattle.meta_log.specs.Faults.{IfDamaged};
+    ghost use Rattle.meta_log.specs.LogText.{IsBlamable};
     ghost use Rattle.meta_log.specs.Making.{LeavesOthers};
     ghost use Rattle.meta_log.specs.declared.stem.Stem.TheVariants.{Log};
     ghost use Rattle.weed_base.specs.Images.{LeavesOnly};
@@ -78,6 +79,7 @@ impl PlainFiler {
         ensures all { IfOk result (λ filer. TakesMany (front_of (log_of filer)).count empty (names_of filer.names)) }
         ensures damaged { IfErr result (IfDamaged (λ file at.
             IfSome (D.files disk.old) (λ files. IsRecordDamage files file at) × (D.files disk.new ≡ D.files disk.old))) }
+        ensures blamed { IfErr result (IfDamaged (λ file _. IsBlamable Log file)) }
 
         // Whatever comes of it, the records that the disk holds stay.
         ensures kept { (records : List Record) → HoldsRecordLog (D.files disk.old) records → HoldsRecordLog (D.files disk.new) records }

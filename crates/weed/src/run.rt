@@ -7,6 +7,7 @@ ghost use Rattle.weed_base.specs.Images.{LeavesOnly, OnlyReads};
 ghost use Rattle.name_core.specs.declared.change.Record.{Record};
 ghost use Rattle.meta_log.specs.Images.{HasLogOf, ImagesKeep, IsMadeFrom, IsOwn};
 ghost use Rattle.meta_log.specs.Kept.{HoldsRecordLog, IsRecordDamage, IsRecordLog};
+ghost use Rattle.meta_log.specs.LogText.{IsBlamable};
 ghost use Rattle.meta_log.specs.Making.{LeavesOthers};
 ghost use Rattle.meta_log.specs.declared.stem.Stem.TheVariants.{Log};
 ghost use Rattle.weed.specs.Growth.{GrowsByRecords};
@@ -101,6 +102,7 @@ pub fn weed<S: Source<H>, H: Host, C: Clock>(
     ensures damaged { IfDamagedExit
         (λ file at. IfSome (H.files world.host) (λ files. IsRecordDamage files file at) × (H.files result.1.host ≡ H.files world.host)) result.0 }
     ensures own { (files : Files) → H.files world.host ≡ Some files → IsOwn (H.images world.host) → IfDamagedExit (λ _ _. ⊥) result.0 }
+    ensures blamed { IfDamagedExit (λ file _. IsBlamable Log file) result.0 }
     ensures disk { IsCauseOf (H.faults world.host) (H.faults result.1.host) (result.0 ≡ Exit.DiskFault) }
     ensures read { IsCauseOf (S.faults world.source) (S.faults result.1.source) (result.0 ≡ Exit.ReadFault) }
     ensures write { IsCauseBeside (H.send_faults world.host) (H.send_faults result.1.host) (result.0 ≡ Exit.WriteFault) (result.0 ≡ Exit.DiskFault) }
@@ -147,6 +149,7 @@ fn filer_once<S: Source<H>, H: Host, C: Clock>(
     ensures damaged { IfDamagedExit
         (λ file at. IfSome (H.files world.old.host) (λ files. IsRecordDamage files file at) × (H.files world.new.host ≡ H.files world.old.host)) result }
     ensures own { (files : Files) → H.files world.old.host ≡ Some files → IsOwn (H.images world.old.host) → IfDamagedExit (λ _ _. ⊥) result }
+    ensures blamed { IfDamagedExit (λ file _. IsBlamable Log file) result }
     ensures disk { IsCauseOf (H.faults world.old.host) (H.faults world.new.host) (result ≡ Exit.DiskFault) }
     ensures read { IsCauseOf (S.faults world.old.source) (S.faults world.new.source) (result ≡ Exit.ReadFault) }
     ensures write { IsCauseBeside (H.send_faults world.old.host) (H.send_faults world.new.host) (result ≡ Exit.WriteFault) (result ≡ Exit.DiskFault) }
@@ -176,6 +179,7 @@ fn begin<H: Host>(alloc: Global, dir: &[u8], host: &mut H) -> Result<Session, Ex
     ensures settled { IfOk result (λ _. (files : Files) (records : List Record) → H.files host.old ≡ Some files
         → IsRecordLog files records → ImagesKeep (H.images host.new) records) }
     ensures own { (files : Files) → H.files host.old ≡ Some files → IsOwn (H.images host.old) → IfErr result (IfDamagedExit (λ _ _. ⊥)) }
+    ensures blamed { IfErr result (IfDamagedExit (λ file _. IsBlamable Log file)) }
     ensures cause { IsCauseOf (H.faults host.old) (H.faults host.new) (IsErrOf result Exit.DiskFault) }
     ensures acts { H.acted host.new ≤ H.acted host.old + 7 }
     ensures sent { SendsNothing H.sent H.send_faults host.old host.new }
