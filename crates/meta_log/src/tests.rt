@@ -1,7 +1,6 @@
 ghost use Rattle.std.specs.Prelude.{◌≡◌, ◌≤◌, List, false, length, IfOk};
 ghost use Rattle.std.specs.Bool.{OnTrue};
 ghost use Rattle.meta_log.specs.Kept.{Keeps};
-ghost use Rattle.meta_log.specs.RecordPlaces.{KeepsPlace};
 
 use super::*;
 use name_core::Record;
@@ -112,15 +111,28 @@ fn find_segment(alloc: Global, bytes: &[u8]) -> Result<Found, Fail> {
 
 #[test]
 fn each_other_way_in_which_a_segment_breaks(rt: HostRuntime) -> Result<(), Fail> {
-    let alloc = rt.alloc();
-    assert_eq!(rt; find_segment(alloc, b"")?, Found::First(0));
-    assert_eq!(rt; find_segment(alloc, b"\x01\x04\0\0\x01")?, Found::First(0));
-    assert_eq!(rt; find_segment(alloc, b"\x01\x04\0\0\0")?, Found::First(0));
-    assert_eq!(rt; find_segment(alloc, b"\x01\0\0\0")?, Found::First(0));
-    assert_eq!(rt; find_segment(alloc, &FIRST_LOG[..58])?, Found::First(58));
-    let mut twice = FIRST_LOG[..58].to_vec(alloc)?;
+    let broken: [(&[u8], u64); 5] = [
+        (b"", 0),
+        (b"\x01\x04\0\0\x01", 0),
+        (b"\x01\x04\0\0\0", 0),
+        (b"\x01\0\0\0", 0),
+        (&FIRST_LOG[..58], 58),
+    ];
+    for (bytes, at) in broken {
+        assert_eq!(rt;
+            find_segment(rt.alloc(), bytes)?,
+            Found::First(at),
+            "{bytes:?}"
+        );
+    }
+    Ok(())
+}
+
+#[test]
+fn a_time_that_does_not_rise_breaks_a_segment(rt: HostRuntime) -> Result<(), Fail> {
+    let mut twice = FIRST_LOG[..58].to_vec(rt.alloc())?;
     twice.extend_from_slice(&FIRST_LOG)?;
-    assert_eq!(rt; find_segment(alloc, &twice)?, Found::First(58));
+    assert_eq!(rt; find_segment(rt.alloc(), &twice)?, Found::First(58));
     Ok(())
 }
 
@@ -139,24 +151,22 @@ fn find_named(alloc: Global, names: &[&[u8]]) -> Result<Found, Fail> {
 
 #[test]
 fn each_way_in_which_segments_count(rt: HostRuntime) -> Result<(), Fail> {
-    let alloc = rt.alloc();
-    assert_eq!(rt; find_named(alloc, &[b"log.00000001"])?, Found::Records(0));
-    assert_eq!(rt; find_named(alloc, &[b"log.00000001.on"])?, Found::First(0));
-    assert_eq!(rt; find_named(alloc, &[b"log.00000002.on"])?, Found::First(0));
-    assert_eq!(rt;
-        find_named(
-            alloc,
-            &[b"log.00000001", b"log.00000001.on", b"log.00000003.on"]
-        )?,
-        Found::Second(0)
-    );
-    assert_eq!(rt;
-        find_named(
-            alloc,
-            &[b"log.00000000.on", b"log.2.on", b"marks.00000002.on"]
-        )?,
-        Found::Records(0)
-    );
+    let ways: [(&[&[u8]], Found); 5] = [
+        (&[b"log.00000001"], Found::Records(0)),
+        (&[b"log.00000001.on"], Found::First(0)),
+        (&[b"log.00000002.on"], Found::First(0)),
+        (
+            &[b"log.00000001", b"log.00000001.on", b"log.00000003.on"],
+            Found::Second(0),
+        ),
+        (
+            &[b"log.00000000.on", b"log.2.on", b"marks.00000002.on"],
+            Found::Records(0),
+        ),
+    ];
+    for (index, (names, wanted)) in ways.into_iter().enumerate() {
+        assert_eq!(rt; find_named(rt.alloc(), names)?, wanted, "row {index}");
+    }
     Ok(())
 }
 
@@ -201,10 +211,7 @@ fn times_after<D: Disk>(
     disk: &mut D,
     after: u64,
     room: u32,
-) -> Result<Vec<u8>, Fail>
-    requires { Keeps (D.files disk.old) meta.now }
-    ensures { D.files disk.new ≡ D.files disk.old }
-{
+) -> Result<Vec<u8>, Fail> {
     let texts = meta.read_after(alloc, disk, after, room)?;
     let mut times = Vec::new(alloc);
     for text in texts.as_slice() {
@@ -231,30 +238,20 @@ fn open_with_three<D: Disk>(rt: &impl Abort, alloc: Global, disk: &mut D) -> Res
 
 #[test]
 fn records_past_a_time_are_read(rt: HostRuntime) -> Result<(), Fail> {
-    let alloc = rt.alloc();
-    let mut disk = disk(alloc, &[], &[])?;
-    let meta = open_with_three(&rt, alloc, &mut disk)?;
+    let mut disk = disk(rt.alloc(), &[], &[])?;
+    let meta = open_with_three(&rt, rt.alloc(), &mut disk)?;
     assert_eq!(rt; meta.front(), Front { count: 3, time: 52 });
-    assert_eq!(rt;
-        times_after(alloc, &meta, &mut disk, 0, 10)?.as_slice(),
-        [50, 51, 52].as_slice()
-    );
-    assert_eq!(rt;
-        times_after(alloc, &meta, &mut disk, 51, 10)?.as_slice(),
-        [52].as_slice()
-    );
-    assert_eq!(rt;
-        times_after(alloc, &meta, &mut disk, 52, 10)?.as_slice(),
-        [].as_slice()
-    );
-    assert_eq!(rt;
-        times_after(alloc, &meta, &mut disk, 0, 2)?.as_slice(),
-        [50, 51].as_slice()
-    );
-    assert_eq!(rt;
-        times_after(alloc, &meta, &mut disk, 50, 1)?.as_slice(),
-        [51].as_slice()
-    );
+    let reads: [(u64, u32, &[u8]); 5] = [
+        (0, 10, &[50, 51, 52]),
+        (51, 10, &[52]),
+        (52, 10, &[]),
+        (0, 2, &[50, 51]),
+        (50, 1, &[51]),
+    ];
+    for (after, room, wanted) in reads {
+        let times = times_after(rt.alloc(), &meta, &mut disk, after, room)?;
+        assert_eq!(rt; times.as_slice(), wanted, "past {after}");
+    }
     Ok(())
 }
 
@@ -332,25 +329,12 @@ fn payloads_are_read_from_a_place(rt: HostRuntime) -> Result<(), Fail> {
     Ok(())
 }
 
-/// The texts of the first two records, and the place behind them.
-#[tactic(auto, using(crate::proofs::RecordPlaces::start_keeps))]
-fn first_two<D: Disk>(
-    alloc: Global,
-    meta: &MetaLog,
-    disk: &mut D,
-) -> Result<(Items<LogText>, Place), LogFault>
-    requires { Keeps (D.files disk.old) meta.now }
-    ensures { IfOk result (λ read. KeepsPlace (D.files disk.new) meta.now read.1) }
-{
-    meta.read_from(alloc, disk, meta.start(), 2)
-}
-
 #[test]
 fn records_are_read_from_a_place(rt: HostRuntime) -> Result<(), Fail> {
     let alloc = rt.alloc();
     let mut disk = disk(alloc, &[], &[])?;
     let meta = open_with_three(&rt, alloc, &mut disk)?;
-    let (texts, next) = first_two(alloc, &meta, &mut disk)?;
+    let (texts, next) = meta.read_from(alloc, &mut disk, meta.start(), 2)?;
     assert_eq!(rt; lengths(&texts), (2, 50));
     assert_eq!(rt; next, Place { segment: 1, at: 60 });
     let (texts, next) = meta.read_from(alloc, &mut disk, next, 2)?;
@@ -361,6 +345,41 @@ fn records_are_read_from_a_place(rt: HostRuntime) -> Result<(), Fail> {
     let (texts, next) = meta.read_from(alloc, &mut disk, next, 2)?;
     assert_eq!(rt; lengths(&texts), (0, 0));
     assert_eq!(rt; next, Place { segment: 1, at: 90 });
+    Ok(())
+}
+
+/// What a reading past a time meets where the log's file was written over at a place, by another's hand.
+fn read_after_change(alloc: Global, at: u64, bytes: &[u8], after: u64) -> Result<Found, Fail> {
+    let mut disk = with_segment(alloc, &FIRST_LOG)?;
+    let meta = MetaLog::open(alloc, &mut disk)?;
+    let segment = name(b"log.00000001")?;
+    match disk.size(&segment)? {
+        Some(size) if at <= size => disk.write_at(&segment, at, bytes)?,
+        _ => return Err(Fail::from("no such place")),
+    }
+    match meta.read_after(alloc, &mut disk, after, 10) {
+        Ok(texts) => Ok(Found::Records(texts.as_slice().len() as u64)),
+        Err(LogFault::Damaged { at, .. }) => Ok(Found::First(at)),
+        Err(_) => Ok(Found::Failed),
+    }
+}
+
+#[test]
+fn a_reading_names_what_was_changed_under_it(rt: HostRuntime) -> Result<(), Fail> {
+    // A gate, a length that leads past the end, and the first byte of the record's text.
+    let changes: [(u64, &[u8], u64, Found); 4] = [
+        (0, &[2], 0, Found::First(0)),
+        (1, &[0, 0, 1, 0], 0, Found::First(0)),
+        (5, &[0xff], 0, Found::First(0)),
+        (57, &[6], 0, Found::Records(1)),
+    ];
+    for (index, (at, bytes, after, wanted)) in changes.into_iter().enumerate() {
+        assert_eq!(rt;
+            read_after_change(rt.alloc(), at, bytes, after)?,
+            wanted,
+            "row {index}"
+        );
+    }
     Ok(())
 }
 

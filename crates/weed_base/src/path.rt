@@ -86,7 +86,7 @@ impl Path {
         Ok(Path::of_spelling(alloc, text)?)
     }
 
-    /// The path of a name in the directory of a text. Takes memory once.
+    /// The path of a name in the directory of a text.
     pub fn read_in(alloc: Global, directory: &[u8], name: &[u8]) -> Result<Path, PathFault>
         ensures found { IfOk result (λ path. IsPath path × (path ≡ parts_in directory.now ++ name.now ∷ [])) }
         ensures refused { MatchOption (read_in_fault directory.now name.now) (IsOkUnless result PathFault.Memory) (λ fault. result ≡ Err fault) }
