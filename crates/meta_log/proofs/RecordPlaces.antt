@@ -15,10 +15,6 @@ use Rattle.meta_log.specs.declared.place.Place.{Place}
 pub start_lies : (files : Files) (meta : MetaLog) (place : Place) (records : List Record) → IsKept files meta records → place ≡ place_behind [] → LiesBetween files meta place [] records
 start_lies files meta place records kept begins = record { kept = kept; before = []; past = kept.payloads; split = refl; read_before = tt; read_past = kept.read; place_is = begins }
 
-pub start_keeps : (told : Option Files) (meta : MetaLog) (place : Place) → Keeps told meta → place ≡ place_behind [] → KeepsPlace told meta place
-start_keeps None meta place keeps begins = ([], [], tt)
-start_keeps (Some files) meta place keeps begins = ([], keeps.0, start_lies files meta place keeps.0 keeps.1 begins)
-
 -- Payloads and their records, cut at one number
 pub ReadAs-take : (room : ℕ) (payloads : List (List ℕ)) (records : List Record) → ReadAs payloads records → ReadAs (take room payloads) (take room records)
 ReadAs-take zero payloads records read = tt
