@@ -68,8 +68,8 @@ of_placed answered path name before after place (Ok value) P (file, stands, aske
 of_placed answered path name before after place (Err error) P found then = tt
 
 -- what holds of the file at a place is of an open file
-pub of_place : {F Q : Type 0} (answered : PathCall F → Type 0) (path name : List ℕ) (before after : List (KeptFile F)) (place : ℕ) (P : F → Type 0) → IsOpenAt answered path name before after place → ((file : F) → IsFileAt place after file → P file) → ((file : F) → IsOpenFile answered path name before file → P file → Q) → Q
-of_place answered path name before after place P (file, stands, asked) holds then = then file asked (holds file stands)
+pub of_place : {F Q : Type 0} (answered : PathCall F → Type 0) (path name : List ℕ) (before after : List (KeptFile F)) (place : ℕ) (P : F → Type 0) → IsOpenAt answered path name before after place → ((file : F) → IsFileAt place after file → P file) → ((file : F) → IsOpenFile answered path name before file → IsFileAt place after file → P file → Q) → Q
+of_place answered path name before after place P (file, stands, asked) holds then = then file asked stands (holds file stands)
 
 one_file : {F : Type 0} (files : List (KeptFile F)) (place : ℕ) (one other : F) → place < length files → IsFileAt place files one → IsFileAt place files other → one ≡ other
 one_file [] place one other within first second = absurd (omega (arith, within))

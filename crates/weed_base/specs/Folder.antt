@@ -31,14 +31,20 @@ OfFile {F} answered P name folder = (file : F) × IsOpenFile answered (path_of f
 abbrev pub OfFileOrMissed : {F : Type 0} → (PathCall F → Type 0) → Type 0 → (F → Type 0) → List ℕ → Folder F → Type 0
 OfFileOrMissed answered Q P name folder = OfFile answered P name folder ⊎ (answered (Missed (path_of folder name)) × Q)
 
--- The act is that call of an open file of that name.
-abbrev pub IsCallOf : {F : Type 0} → (PathCall F → Type 0) → FileCall → List ℕ → Folder F → Act F → Type 0
-IsCallOf answered call name folder act = OfFile answered (λ file. act ≡ CallFile file call) name folder
+-- The act is that call of an open file of that name, which then awaits at least that of a sync.
+abbrev pub IsCallOf : {F : Type 0} → (PathCall F → Type 0) → FileCall → Awaits → List ℕ → Folder F → Folder F → Act F → Type 0
+IsCallOf answered call mark name before after act =
+    OfFile answered (λ file. (act ≡ CallFile file call) × Awaiting name file mark after.kept.files.items) name before
 
--- The act empties an open file of that name, or makes one where none was found.
-abbrev pub IsMaking : {F : Type 0} → (PathCall F → Type 0) → List ℕ → Folder F → Act F → Type 0
-IsMaking answered name folder act =
-    IsCallOf answered (CutTo 0) name folder act ⊎ (answered (Missed (path_of folder name)) × (act ≡ MakeFile (path_of folder name)))
+-- The act is this one, and then the names await a sync.
+abbrev pub IsNaming : {F : Type 0} → Act F → Folder F → Act F → Type 0
+IsNaming this after act = (act ≡ this) × (after.kept.names_await ≡ true)
+
+-- The act empties an open file of that name, or makes one where none was found, and what it did then awaits a sync.
+abbrev pub IsMaking : {F : Type 0} → (PathCall F → Type 0) → List ℕ → Folder F → Folder F → Act F → Type 0
+IsMaking answered name before after act =
+    IsCallOf answered (CutTo 0) Everything name before after act
+    ⊎ (answered (Missed (path_of before name)) × IsNaming (MakeFile (path_of before name)) after act)
 
 -- What lies at that path was opened, and settled whole.
 abbrev pub IsSettledAt : {F : Type 0} → (PathCall F → Type 0) → (FileCall → F → Type 0) → List ℕ → Type 0

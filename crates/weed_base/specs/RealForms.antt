@@ -44,5 +44,5 @@ abbrev pub BreaksOffUnless : {R F : Type 0} → Type 0 → DirDisk R F → DirDi
 BreaksOffUnless Reason old new = (Reason → StaysAttached old new) × (¬ Reason → IsBrokenOff new)
 
 -- One such act of the directory that is attached was asked of the system, or none.
-abbrev pub ActsOnceAttached : {R F : Type 0} → (R → R → Act F → Type 0) → (Folder F → Act F → Type 0) → DirDisk R F → DirDisk R F → Type 0
-ActsOnceAttached one_act May old new = ActsOnce one_act (λ act. IsSomeAnd old.folder (λ folder. May folder act)) old.system new.system
+abbrev pub ActsOnceAttached : {R F : Type 0} → (R → R → Act F → Type 0) → (Folder F → Folder F → Act F → Type 0) → DirDisk R F → DirDisk R F → Type 0
+ActsOnceAttached one_act May old new = ActsOnce one_act (λ act. BothAttached (λ before after. May before after act) old new) old.system new.system

@@ -6,7 +6,7 @@ ghost use Rattle.weed_base.specs.Told.{raised, HasCause, IsCauseOf};
 ghost use Rattle.weed_base.specs.Files.{ReadsAt};
 ghost use Rattle.weed_base.specs.System.{Write, CutTo, Missed, RemoveFile, RenameFile, ActsOnly, IsSettling, SettlingFailed, IsOpening};
 ghost use Rattle.weed_base.specs.Awaiting.{Awaiting, SettlesInTurn};
-ghost use Rattle.weed_base.specs.Folder.{OfFile, OfFileOrMissed, IsCallOf, IsMaking, SettlesMakesSettles, IsListing, IsOpenedFolder, IsSameFolder, KeepsFolder, MarksNoMore, HasMade, HasRemoved, HasRenamed, NamesMayHaveChanged, SettlesFiles, IsSettledWhole, path_of};
+ghost use Rattle.weed_base.specs.Folder.{OfFile, OfFileOrMissed, IsCallOf, IsNaming, IsMaking, SettlesMakesSettles, IsListing, IsOpenedFolder, IsSameFolder, KeepsFolder, MarksNoMore, HasMade, HasRemoved, HasRenamed, NamesMayHaveChanged, SettlesFiles, IsSettledWhole, path_of};
 ghost use Rattle.weed_base.specs.declared.real.folder.Folder.{Folder};
 ghost use Rattle.weed_base.specs.RealForms.{IsBrokenOff, IsCalled, Ticks, StaysBroken, StaysAttached, BreaksOffUnless, ActsOnceAttached, BothAttached, BothOrNone};
 ghost use Rattle.weed_base.specs.declared.real.kept.Awaits.TheVariants.{Data, Everything};
@@ -260,7 +260,7 @@ impl<F: SystemFile + Drop, R: System<File = F> + AllocGlobal + Drop> Disk for Di
         ensures bound { OnOk result (at + length piece.now < 2 ^ 63) }
         ensures written { OnOk result (BothAttached (λ before after. OfFile R.answered
             (λ file. R.file_answered (Write at piece.now) file × Awaiting name.now file Data after.kept.files.items) name.now before) self.old self.new) }
-        ensures acts { ActsOnceAttached R.one_act (λ folder act. IsCallOf R.answered (Write at piece.now) name.now folder act × (at + length piece.now < 2 ^ 63)) self.old self.new }
+        ensures acts { ActsOnceAttached R.one_act (λ before after act. IsCallOf R.answered (Write at piece.now) Data name.now before after act × (at + length piece.now < 2 ^ 63)) self.old self.new }
     {
         self.counts.begin()?;
         let Some(folder) = &mut self.folder else {
@@ -276,7 +276,7 @@ impl<F: SystemFile + Drop, R: System<File = F> + AllocGlobal + Drop> Disk for Di
         ensures more { BothOrNone (MarksNoMore (λ other _. name.now ≡ other) ⊥) self.old self.new }
         ensures cut { OnOk result (BothAttached (λ before after. OfFile R.answered
             (λ file. R.file_answered (CutTo to) file × Awaiting name.now file Everything after.kept.files.items) name.now before) self.old self.new) }
-        ensures acts { ActsOnceAttached R.one_act (IsCallOf R.answered (CutTo to) name.now) self.old self.new }
+        ensures acts { ActsOnceAttached R.one_act (IsCallOf R.answered (CutTo to) Everything name.now) self.old self.new }
     {
         self.counts.begin()?;
         let Some(folder) = &mut self.folder else {
@@ -306,7 +306,7 @@ impl<F: SystemFile + Drop, R: System<File = F> + AllocGlobal + Drop> Disk for Di
         ensures same { BothOrNone IsSameFolder self.old self.new }
         ensures removed { OnOk result (BothAttached (HasRemoved R.answered name.now) self.old self.new) }
         ensures failed { OnErr result ((self.new.folder ≡ self.old.folder) ⊎ BothAttached NamesMayHaveChanged self.old self.new) }
-        ensures acts { ActsOnceAttached R.one_act (λ folder act. act ≡ RemoveFile (path_of folder name.now)) self.old self.new }
+        ensures acts { ActsOnceAttached R.one_act (λ before after. IsNaming (RemoveFile (path_of before name.now)) after) self.old self.new }
     {
         self.counts.begin()?;
         let Some(folder) = &mut self.folder else {
@@ -321,7 +321,7 @@ impl<F: SystemFile + Drop, R: System<File = F> + AllocGlobal + Drop> Disk for Di
         ensures same { BothOrNone IsSameFolder self.old self.new }
         ensures renamed { OnOk result (BothAttached (HasRenamed R.answered from.now to.now) self.old self.new) }
         ensures failed { OnErr result ((self.new.folder ≡ self.old.folder) ⊎ BothAttached NamesMayHaveChanged self.old self.new) }
-        ensures acts { ActsOnceAttached R.one_act (λ folder act. act ≡ RenameFile (path_of folder from.now) (path_of folder to.now)) self.old self.new }
+        ensures acts { ActsOnceAttached R.one_act (λ before after. IsNaming (RenameFile (path_of before from.now) (path_of before to.now)) after) self.old self.new }
     {
         self.counts.begin()?;
         let Some(folder) = &mut self.folder else {

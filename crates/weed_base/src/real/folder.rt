@@ -4,7 +4,7 @@ ghost use Rattle.std.specs.List.{All};
 ghost use Rattle.weed_base.specs.Files.{ReadsAt, ReadsSome};
 ghost use Rattle.weed_base.specs.System.{Write, CutTo, SettleAll, CallFile, OpenedToSettle, Missed, Made, ActsOnce, ActsOnly, IsSettling, SettlingFailed, IsOpening, MakeFile, RemoveFile, RenameFile, path_in, directory_above};
 ghost use Rattle.weed_base.specs.Awaiting.{Covers, Awaiting, StillAwaits, AwaitsNoMore, IsNamedAt, IsFileAt, IsOpenAs, SettlesInTurn};
-ghost use Rattle.weed_base.specs.Folder.{IsOpenAt, OfFile, OfFileOrMissed, IsCallOf, IsMaking, IsSettledAt, MakesThenSettles, IsListing, OpensOne, IsOpenedFolder, IsSameFolder, KeepsFolder, MarksNoMore, HasMade, HasRemoved, HasRenamed, NamesMayHaveChanged, SettlesFiles, IsSettledWhole, path_of};
+ghost use Rattle.weed_base.specs.Folder.{IsOpenAt, OfFile, OfFileOrMissed, IsCallOf, IsNaming, IsMaking, IsSettledAt, MakesThenSettles, IsListing, OpensOne, IsOpenedFolder, IsSameFolder, KeepsFolder, MarksNoMore, HasMade, HasRemoved, HasRenamed, NamesMayHaveChanged, SettlesFiles, IsSettledWhole, path_of};
 
 use crate::file_name::FileName;
 use crate::real::kept::{Awaits, KeptFile, KeptFiles, MAX_END};
@@ -251,7 +251,7 @@ impl<F: SystemFile + Drop> Folder<F> {
         ensures bound { OnOk result (at + length piece.now < 2 ^ 63) }
         ensures keeps { KeepsFolder R.answered self.old self.new }
         ensures more { MarksNoMore (λ other mark. (name.now ≡ other) × (mark ≡ Awaits.Data)) ⊥ self.old self.new }
-        ensures acts { ActsOnce R.one_act (λ act. IsCallOf R.answered (Write at piece.now) name.now self.old act × (at + length piece.now < 2 ^ 63)) system.old system.new }
+        ensures acts { ActsOnce R.one_act (λ act. IsCallOf R.answered (Write at piece.now) Awaits.Data name.now self.old self.new act × (at + length piece.now < 2 ^ 63)) system.old system.new }
     {
         match self.place_of(&*system, name)? {
             Some(place) => self.kept.write_at(system, place, at, piece),
@@ -269,7 +269,7 @@ impl<F: SystemFile + Drop> Folder<F> {
         ensures cut { OnOk result (OfFile R.answered (λ file. R.file_answered (CutTo to) file × Awaiting name.now file Awaits.Everything self.new.kept.files.items) name.now self.old) }
         ensures keeps { KeepsFolder R.answered self.old self.new }
         ensures more { MarksNoMore (λ other _. name.now ≡ other) ⊥ self.old self.new }
-        ensures acts { ActsOnce R.one_act (IsCallOf R.answered (CutTo to) name.now self.old) system.old system.new }
+        ensures acts { ActsOnce R.one_act (IsCallOf R.answered (CutTo to) Awaits.Everything name.now self.old self.new) system.old system.new }
     {
         match self.place_of(&*system, name)? {
             Some(place) => self.kept.cut(system, place, to),
@@ -305,7 +305,7 @@ impl<F: SystemFile + Drop> Folder<F> {
         ensures made { OnOk result (HasMade R.answered R.file_answered name.now self.old self.new) }
         ensures keeps { KeepsFolder R.answered self.old self.new }
         ensures more { MarksNoMore (λ other _. name.now ≡ other) (R.answered (Missed (path_of self.old name.now))) self.old self.new }
-        ensures acts { ActsOnce R.one_act (IsMaking R.answered name.now self.old) system.old system.new }
+        ensures acts { ActsOnce R.one_act (IsMaking R.answered name.now self.old self.new) system.old system.new }
     {
         match self.place_of(&*system, name)? {
             Some(place) => self.kept.cut(system, place, 0),
@@ -322,7 +322,7 @@ impl<F: SystemFile + Drop> Folder<F> {
         ensures removed { OnOk result (HasRemoved R.answered name.now self.old self.new) }
         ensures failed { OnErr result (NamesMayHaveChanged self.old self.new) }
         ensures same { IsSameFolder self.old self.new }
-        ensures acts { ActsOnce R.one_act (λ act. act ≡ RemoveFile (path_of self.old name.now)) system.old system.new }
+        ensures acts { ActsOnce R.one_act (IsNaming (RemoveFile (path_of self.old name.now)) self.new) system.old system.new }
     {
         self.note_names();
         let path = self.path_of(system.alloc(), name)?;
@@ -341,7 +341,7 @@ impl<F: SystemFile + Drop> Folder<F> {
         ensures renamed { OnOk result (HasRenamed R.answered from.now to.now self.old self.new) }
         ensures failed { OnErr result (NamesMayHaveChanged self.old self.new) }
         ensures same { IsSameFolder self.old self.new }
-        ensures acts { ActsOnce R.one_act (λ act. act ≡ RenameFile (path_of self.old from.now) (path_of self.old to.now)) system.old system.new }
+        ensures acts { ActsOnce R.one_act (IsNaming (RenameFile (path_of self.old from.now) (path_of self.old to.now)) self.new) system.old system.new }
     {
         self.note_names();
         let old = self.path_of(system.alloc(), from)?;

@@ -35,6 +35,7 @@ returns-in-Some-clause-more g c =
 
 pub returns-in-Some-clause-acts : goal.returns-in-Some-clause-acts
 returns-in-Some-clause-acts g c =
+    let named = subst (λ found. IfSome found (λ place. IsNamedAt c.args.name.now place c.place_of.new.self.kept.files.items)) c.in-Some.is c.in_ok-place.ensures.place in
     of_place g.R.System.answered (path_of c.args.self.now c.args.name.now) _ _ _ c.in-Some.place (λ file. g.R.System.one_act _ _ (CallFile file (CutTo c.args.to)))
     (at_found _ _ _ _ c.in-Some.is c.in_ok-place.ensures.opened) c.cut.ensures.once
-    (λ file asked once. inr (CallFile file (CutTo c.args.to), (file, asked, refl), once))
+    (λ file asked at once. inr (CallFile file (CutTo c.args.to), (file, asked, (refl, c.cut.ensures.marked c.args.name.now file named at)), once))

@@ -36,6 +36,7 @@ returns-in-Some-clause-more g c =
 
 pub returns-in-Some-clause-acts : goal.returns-in-Some-clause-acts
 returns-in-Some-clause-acts g c =
+    let named = subst (λ found. IfSome found (λ place. IsNamedAt c.args.name.now place c.place_of.new.self.kept.files.items)) c.in-Some.is c.in_ok-place.ensures.place in
     of_place g.R.System.answered (path_of c.args.self.now c.args.name.now) _ _ _ c.in-Some.place (λ file. ActsOnce g.R.System.one_act (λ act. (act ≡ CallFile file (Write c.args.at c.args.piece.now)) × (c.args.at + length c.args.piece.now < 2 ^ 63)) _ _)
     (at_found _ _ _ _ c.in-Some.is c.in_ok-place.ensures.opened) c.write_at.ensures.acts
-    (λ file asked once. acts_once g.R.System.one_act (λ act is. ((file, asked, is.0), is.1)) once)
+    (λ file asked at once. acts_once g.R.System.one_act (λ act is. ((file, asked, (is.0, c.write_at.ensures.marked c.args.name.now file named at is.1)), is.1)) once)
