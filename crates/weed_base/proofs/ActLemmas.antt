@@ -1,6 +1,5 @@
 -- What is asked of the system, one act behind another.
 use Rattle.std.proofs.Common.{◌≡◌, ℕ, zero, suc, List, refl, sym, subst, inl, inr}
-use Rattle.std.specs.Prelude.{◌⊎◌}
 use Rattle.weed_base.specs.System.{Act, ActsOnce, ActsInTurn, ActsOnly, IsOpening}
 
 module _ {R F : Type 0} (one_act : R → R → Act F → Type 0) where

@@ -1,5 +1,5 @@
 -- What keeps the marks of open files.
-use Rattle.std.proofs.Common.{◌≡◌, ◌≢◌, ◌⊎◌, ℕ, suc, ◌+◌, ◌<◌, ◌≤◌, Bool, true, false, List, [], ◌∷◌, ◌++◌, length, get_or, set, Some, Result, Ok, Err, OnOk, sym, ap, ◌∙◌, inl, inr, subst, refl, arith}
+use Rattle.std.proofs.Common.{◌≡◌, ◌≢◌, ◌⊎◌, ℕ, suc, ◌+◌, ◌<◌, ◌≤◌, Bool, true, false, List, [], ◌∷◌, ◌++◌, length, get_or, set, Some, Result, Ok, Err, OnOk, OnErr, MatchResult, sym, ap, ◌∙◌, inl, inr, subst, refl, arith}
 use Rattle.std.proofs.lemmas.Grind.{common_steps, get_or-set_at}
 use Rattle.std.proofs.lemmas.List.{get_or-set_other, length-set}
 use Rattle.std.proofs.lemmas.List.Elements.{at_read}
@@ -93,6 +93,16 @@ named_at_position (some ∷ files) name place is = named_at (some ∷ files) som
 pub on_ok : {T E : Type 0} {P Q : Type 0} (answer : Result T E) → (P → Q) → OnOk answer P → OnOk answer Q
 on_ok (Ok value) then holds = then holds
 on_ok (Err error) then holds = tt
+
+-- what was answered Ok, where that is handed on
+pub noted : {T E F : Type 0} (P : Type 0) (answer : Result T E) (result : Result T F) (bad : F) → MatchResult answer (λ value. result ≡ Ok value) (λ _. result ≡ Err bad) → OnOk answer P → OnOk result P
+noted {T} {F = F} P (Ok value) result bad is holds = subst (λ (it : Result T F). OnOk it P) (sym is) holds
+noted {T} {F = F} P (Err error) result bad is holds = subst (λ (it : Result T F). OnOk it P) (sym is) tt
+
+-- what follows where it failed
+pub on_err : {T E : Type 0} {P Q : Type 0} (answer : Result T E) → (P → Q) → OnErr answer P → OnErr answer Q
+on_err (Ok value) then holds = tt
+on_err (Err error) then holds = then holds
 
 -- the same with what follows where it fits
 pub both_ok : {T E : Type 0} (Fits P Q : Type 0) (answer : Result T E) → OnOk answer Fits → OnOk answer P → (Fits → Q) → OnOk answer (P × Q)

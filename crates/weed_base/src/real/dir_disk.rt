@@ -4,7 +4,7 @@ ghost use Rattle.std.proofs.lemmas.Option.{none-some};
 ghost use Rattle.weed_base.specs.Attachment.{Attaches, unattached};
 ghost use Rattle.weed_base.specs.Told.{raised, HasCause, IsCauseOf};
 ghost use Rattle.weed_base.specs.Files.{ReadsAt};
-ghost use Rattle.weed_base.specs.System.{Write, CutTo, Missed, RemoveFile, RenameFile, ActsOnly, IsSettling, SettlingFailed, IsOpening};
+ghost use Rattle.weed_base.specs.System.{Write, CutTo, CallFile, Missed, RemoveFile, RenameFile, ActsOnly, IsSettling, SettlingFailed, IsOpening};
 ghost use Rattle.weed_base.specs.Awaiting.{Awaiting, SettlesInTurn};
 ghost use Rattle.weed_base.specs.Folder.{OfFile, OfFileOrMissed, IsCallOf, IsNaming, IsMaking, SettlesMakesSettles, IsListing, IsOpenedFolder, IsSameFolder, KeepsFolder, MarksNoMore, HasMade, HasRemoved, HasRenamed, NamesMayHaveChanged, SettlesFiles, IsSettledWhole, path_of};
 ghost use Rattle.weed_base.specs.declared.real.folder.Folder.{Folder};
@@ -99,6 +99,7 @@ impl<F: SystemFile + Drop, R: System<File = F> + AllocGlobal + Drop> DirDisk<R, 
     fn settle(&mut self) -> io::Result<()>
         ensures settled { OnOk result (BothOrNone (λ before after. SettlesFiles R.file_answered before after × IsSettledWhole after) self.old self.new) }
         ensures rest { (self.new.counts ≡ self.old.counts) × (self.new.attachment ≡ self.old.attachment) }
+        ensures done { OnOk result (ActsOnly R.one_done IsSettling self.old.system self.new.system) }
         ensures acts { ActsOnly R.one_act IsSettling self.old.system self.new.system }
     {
         match &mut self.folder {
@@ -111,7 +112,7 @@ impl<F: SystemFile + Drop, R: System<File = F> + AllocGlobal + Drop> DirDisk<R, 
     fn open(&mut self, place: &[u8]) -> io::Result<Folder<F>>
         ensures broken { IsBrokenOff self.old → IsErr result }
         ensures opened { IfOk result (IsOpenedFolder R.answered R.file_answered place.now) }
-        ensures made { OnOk result (SettlesMakesSettles R.one_act R.answered R.file_answered place.now self.old.system self.new.system) }
+        ensures made { OnOk result (SettlesMakesSettles R.one_done R.answered R.file_answered place.now self.old.system self.new.system) }
         ensures left { OnOk result (BothOrNone (λ before after. SettlesFiles R.file_answered before after × IsSettledWhole after) self.old self.new) }
         ensures rest { (self.new.counts ≡ self.old.counts) × (self.new.attachment ≡ self.old.attachment) }
         ensures acts { ActsOnly R.one_act (IsOpening place.now) self.old.system self.new.system }
@@ -170,7 +171,7 @@ impl<F: SystemFile + Drop, R: System<File = F> + AllocGlobal + Drop> Disk for Di
         ensures attached { Attaches place self.old.counts.made self.old.attachment self.new.attachment result }
         ensures settled { OnOk result (IfSome self.old.folder (λ before. (after : Folder F) × (SettlesFiles R.file_answered before after × IsSettledWhole after))) }
         ensures opened { OnOk result (IsSomeAnd self.new.folder (IsOpenedFolder R.answered R.file_answered place)) }
-        ensures made { OnOk result (SettlesMakesSettles R.one_act R.answered R.file_answered place self.old.system self.new.system) }
+        ensures made { OnOk result (SettlesMakesSettles R.one_done R.answered R.file_answered place self.old.system self.new.system) }
         ensures whole { OnOk result (self.new.broken ≡ self.old.broken) }
         ensures broken { OnErr result (BreaksOffUnless (self.old.counts.made ≡ 2 ^ 64 - 1) self.old self.new) }
         ensures acts { ActsOnly R.one_act (IsOpening place) self.old.system self.new.system }
@@ -260,6 +261,8 @@ impl<F: SystemFile + Drop, R: System<File = F> + AllocGlobal + Drop> Disk for Di
         ensures bound { OnOk result (at + length piece.now < 2 ^ 63) }
         ensures written { OnOk result (BothAttached (λ before after. OfFile R.answered
             (λ file. R.file_answered (Write at piece.now) file × Awaiting name.now file Data after.kept.files.items) name.now before) self.old self.new) }
+        ensures refused { OnErr result ((self.new.system ≡ self.old.system)
+            ⊎ IsSomeAnd self.old.folder (OfFile R.answered (λ file. R.failed (CallFile file (Write at piece.now))) name.now)) }
         ensures acts { ActsOnceAttached R.one_act (λ before after act. IsCallOf R.answered (Write at piece.now) Data name.now before after act × (at + length piece.now < 2 ^ 63)) self.old self.new }
     {
         self.counts.begin()?;
@@ -276,6 +279,8 @@ impl<F: SystemFile + Drop, R: System<File = F> + AllocGlobal + Drop> Disk for Di
         ensures more { BothOrNone (MarksNoMore (λ other _. name.now ≡ other) ⊥) self.old self.new }
         ensures cut { OnOk result (BothAttached (λ before after. OfFile R.answered
             (λ file. R.file_answered (CutTo to) file × Awaiting name.now file Everything after.kept.files.items) name.now before) self.old self.new) }
+        ensures refused { OnErr result ((self.new.system ≡ self.old.system)
+            ⊎ IsSomeAnd self.old.folder (OfFile R.answered (λ file. R.failed (CallFile file (CutTo to))) name.now)) }
         ensures acts { ActsOnceAttached R.one_act (IsCallOf R.answered (CutTo to) Everything name.now) self.old self.new }
     {
         self.counts.begin()?;
@@ -306,6 +311,8 @@ impl<F: SystemFile + Drop, R: System<File = F> + AllocGlobal + Drop> Disk for Di
         ensures same { BothOrNone IsSameFolder self.old self.new }
         ensures removed { OnOk result (BothAttached (HasRemoved R.answered name.now) self.old self.new) }
         ensures failed { OnErr result ((self.new.folder ≡ self.old.folder) ⊎ BothAttached NamesMayHaveChanged self.old self.new) }
+        ensures refused { OnErr result ((self.new.system ≡ self.old.system)
+            ⊎ IsSomeAnd self.old.folder (λ folder. R.failed (RemoveFile (path_of folder name.now)))) }
         ensures acts { ActsOnceAttached R.one_act (λ before after. IsNaming (RemoveFile (path_of before name.now)) after) self.old self.new }
     {
         self.counts.begin()?;
@@ -321,6 +328,8 @@ impl<F: SystemFile + Drop, R: System<File = F> + AllocGlobal + Drop> Disk for Di
         ensures same { BothOrNone IsSameFolder self.old self.new }
         ensures renamed { OnOk result (BothAttached (HasRenamed R.answered from.now to.now) self.old self.new) }
         ensures failed { OnErr result ((self.new.folder ≡ self.old.folder) ⊎ BothAttached NamesMayHaveChanged self.old self.new) }
+        ensures refused { OnErr result ((self.new.system ≡ self.old.system)
+            ⊎ IsSomeAnd self.old.folder (λ folder. R.failed (RenameFile (path_of folder from.now) (path_of folder to.now)))) }
         ensures acts { ActsOnceAttached R.one_act (λ before after. IsNaming (RenameFile (path_of before from.now) (path_of before to.now)) after) self.old self.new }
     {
         self.counts.begin()?;
@@ -337,6 +346,7 @@ impl<F: SystemFile + Drop, R: System<File = F> + AllocGlobal + Drop> Disk for Di
         ensures whole { OnOk result (self.new.broken ≡ self.old.broken) }
         ensures broken { OnErr result (BreaksOffUnless ((self.old.counts.made ≡ 2 ^ 64 - 1) ⊎ (self.old.folder ≡ None)) self.old self.new) }
         ensures failed { OnErr result ((self.old.counts.made ≡ 2 ^ 64 - 1) ⊎ (self.old.folder ≡ None) ⊎ SettlingFailed R.failed) }
+        ensures done { OnOk result (ActsOnly R.one_done IsSettling self.old.system self.new.system) }
         ensures turns { MatchOption self.old.folder (self.new.system ≡ self.old.system)
             (λ folder. SettlesInTurn R.one_act folder.kept self.old.system self.new.system) }
     {

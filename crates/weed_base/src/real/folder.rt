@@ -73,7 +73,7 @@ fn settle_at<F: SystemFile + Drop, R: System<File = F>>(
     system: &mut R,
     path: &str,
 ) -> io::Result<()>
-    ensures settled { OnOk result ((file : F) × R.answered (OpenedToSettle path.now file) × R.file_answered SettleAll file × R.one_act system.old system.new (CallFile file SettleAll)) }
+    ensures settled { OnOk result ((file : F) × R.answered (OpenedToSettle path.now file) × R.file_answered SettleAll file × R.one_done system.old system.new (CallFile file SettleAll)) }
     ensures acts { ActsOnce R.one_act IsSettling system.old system.new }
 {
     let file = system.open_to_settle(path)?;
@@ -86,7 +86,7 @@ fn make_folder<F: SystemFile + Drop, R: System<File = F>>(
     system: &mut R,
     path: &str,
 ) -> io::Result<()>
-    ensures made { OnOk result (MakesThenSettles R.one_act R.answered R.file_answered path.now system.old system.new) }
+    ensures made { OnOk result (MakesThenSettles R.one_done R.answered R.file_answered path.now system.old system.new) }
     ensures acts { ActsOnly R.one_act (IsOpening path.now) system.old system.new }
 {
     system.make_directory(path)?;
@@ -100,6 +100,7 @@ fn settle_each<F: SystemFile + Drop, R: System<File = F> + AllocGlobal>(
     names: &[FileName],
 ) -> io::Result<()>
     ensures settled { OnOk result (All (λ name. IsSettledAt R.answered R.file_answered (path_in directory.now name)) names.now) }
+    ensures done { OnOk result (ActsOnly R.one_done IsSettling system.old system.new) }
     ensures acts { ActsOnly R.one_act IsSettling system.old system.new }
 {
     for name in names {
@@ -124,7 +125,7 @@ impl<F: SystemFile + Drop> Folder<F> {
         path: &[u8],
     ) -> io::Result<Folder<F>>
         ensures opened { IfOk result (IsOpenedFolder R.answered R.file_answered path.now) }
-        ensures made { OnOk result (MakesThenSettles R.one_act R.answered R.file_answered path.now system.old system.new) }
+        ensures made { OnOk result (MakesThenSettles R.one_done R.answered R.file_answered path.now system.old system.new) }
         ensures acts { ActsOnly R.one_act (IsOpening path.now) system.old system.new }
     {
         let path = text_of(path)?;
@@ -251,6 +252,7 @@ impl<F: SystemFile + Drop> Folder<F> {
         ensures bound { OnOk result (at + length piece.now < 2 ^ 63) }
         ensures keeps { KeepsFolder R.answered self.old self.new }
         ensures more { MarksNoMore (λ other mark. (name.now ≡ other) × (mark ≡ Awaits.Data)) ⊥ self.old self.new }
+        ensures refused { OnErr result ((system.new ≡ system.old) ⊎ OfFile R.answered (λ file. R.failed (CallFile file (Write at piece.now))) name.now self.old) }
         ensures acts { ActsOnce R.one_act (λ act. IsCallOf R.answered (Write at piece.now) Awaits.Data name.now self.old self.new act × (at + length piece.now < 2 ^ 63)) system.old system.new }
     {
         match self.place_of(&*system, name)? {
@@ -269,6 +271,7 @@ impl<F: SystemFile + Drop> Folder<F> {
         ensures cut { OnOk result (OfFile R.answered (λ file. R.file_answered (CutTo to) file × Awaiting name.now file Awaits.Everything self.new.kept.files.items) name.now self.old) }
         ensures keeps { KeepsFolder R.answered self.old self.new }
         ensures more { MarksNoMore (λ other _. name.now ≡ other) ⊥ self.old self.new }
+        ensures refused { OnErr result ((system.new ≡ system.old) ⊎ OfFile R.answered (λ file. R.failed (CallFile file (CutTo to))) name.now self.old) }
         ensures acts { ActsOnce R.one_act (IsCallOf R.answered (CutTo to) Awaits.Everything name.now self.old self.new) system.old system.new }
     {
         match self.place_of(&*system, name)? {
@@ -322,6 +325,7 @@ impl<F: SystemFile + Drop> Folder<F> {
         ensures removed { OnOk result (HasRemoved R.answered name.now self.old self.new) }
         ensures failed { OnErr result (NamesMayHaveChanged self.old self.new) }
         ensures same { IsSameFolder self.old self.new }
+        ensures refused { OnErr result ((system.new ≡ system.old) ⊎ R.failed (RemoveFile (path_of self.old name.now))) }
         ensures acts { ActsOnce R.one_act (IsNaming (RemoveFile (path_of self.old name.now)) self.new) system.old system.new }
     {
         self.note_names();
@@ -341,6 +345,7 @@ impl<F: SystemFile + Drop> Folder<F> {
         ensures renamed { OnOk result (HasRenamed R.answered from.now to.now self.old self.new) }
         ensures failed { OnErr result (NamesMayHaveChanged self.old self.new) }
         ensures same { IsSameFolder self.old self.new }
+        ensures refused { OnErr result ((system.new ≡ system.old) ⊎ R.failed (RenameFile (path_of self.old from.now) (path_of self.old to.now))) }
         ensures acts { ActsOnce R.one_act (IsNaming (RenameFile (path_of self.old from.now) (path_of self.old to.now)) self.new) system.old system.new }
     {
         self.note_names();
@@ -359,6 +364,7 @@ impl<F: SystemFile + Drop> Folder<F> {
         ensures settled { OnOk result (IsSettledWhole self.new) }
         ensures failed { OnErr result (SettlingFailed R.failed) }
         ensures same { IsSameFolder self.old self.new }
+        ensures done { OnOk result (ActsOnly R.one_done IsSettling system.old system.new) }
         ensures turns { SettlesInTurn R.one_act self.old.kept system.old system.new }
         ensures acts { ActsOnly R.one_act IsSettling system.old system.new }
     {

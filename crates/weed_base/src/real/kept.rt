@@ -49,6 +49,7 @@ impl<F: SystemFile + Drop> KeptFile<F> {
         ensures mark { FallsByAnswer R.file_answered self.old self.new }
         ensures settled { OnOk result (AwaitsNothing self.new) }
         ensures failed { OnErr result (SettlingFailed R.failed) }
+        ensures done { OnOk result (ActsOnce R.one_done IsSettling system.old system.new) }
         ensures once { SettlesBy R.one_act self.old.awaits self.old.file system.old system.new }
         ensures acts { ActsOnce R.one_act IsSettling system.old system.new }
     {
@@ -76,6 +77,7 @@ impl<F: SystemFile + Drop> KeptFile<F> {
         ensures fits { OnOk result (at + length piece.now < 2 ^ 63) }
         ensures file { self.new.file ≡ self.old.file }
         ensures written { OnOk result (R.file_answered (Write at piece.now) self.old.file) }
+        ensures refused { OnErr result ((system.new ≡ system.old) ⊎ R.failed (CallFile self.old.file (Write at piece.now))) }
         ensures acts { ActsOnce R.one_act (λ act. (act ≡ CallFile self.old.file (Write at piece.now)) × (at + length piece.now < 2 ^ 63)) system.old system.new }
     {
         if piece.len() as u64 > MAX_END || at > MAX_END - piece.len() as u64 {
@@ -93,6 +95,7 @@ impl<F: SystemFile + Drop> KeptFile<F> {
         ensures marked { self.new.awaits ≡ Awaits.Everything }
         ensures file { self.new.file ≡ self.old.file }
         ensures cut { OnOk result (R.file_answered (CutTo to) self.old.file) }
+        ensures refused { OnErr result (R.failed (CallFile self.old.file (CutTo to))) }
         ensures once { R.one_act system.old system.new (CallFile self.old.file (CutTo to)) }
     {
         self.awaits = Awaits::Everything;
@@ -108,6 +111,7 @@ fn sync_each<F: SystemFile + Drop, R: System<File = F>>(
     ensures marks { AllZip (FallsByAnswer R.file_answered) files.old files.new }
     ensures settled { OnOk result (All AwaitsNothing files.new) }
     ensures failed { OnErr result (SettlingFailed R.failed) }
+    ensures done { OnOk result (ActsOnly R.one_done IsSettling system.old system.new) }
     ensures turns { (count : ℕ) × (count ≤ length files.old) × SettlesFirst R.one_act files.old count system.old system.new }
     ensures acts { ActsOnly R.one_act IsSettling system.old system.new }
 {
@@ -199,6 +203,8 @@ impl<F: SystemFile + Drop> KeptFiles<F> {
         ensures marked { (name : List ℕ) (file : F) → IsNamedAt name place self.old.files.items → IsFileAt place self.old.files.items file
             → at + length piece.now < 2 ^ 63 → Awaiting name file Awaits.Data self.new.files.items }
         ensures written { (file : F) → IsFileAt place self.old.files.items file → OnOk result (R.file_answered (Write at piece.now) file) }
+        ensures refused { (file : F) → IsFileAt place self.old.files.items file
+            → OnErr result ((system.new ≡ system.old) ⊎ R.failed (CallFile file (Write at piece.now))) }
         ensures acts { (file : F) → IsFileAt place self.old.files.items file
             → ActsOnce R.one_act (λ act. (act ≡ CallFile file (Write at piece.now)) × (at + length piece.now < 2 ^ 63)) system.old system.new }
         ensures still { StillAwaits self.old.files.items self.new.files.items }
@@ -222,6 +228,7 @@ impl<F: SystemFile + Drop> KeptFiles<F> {
         ensures marked { (name : List ℕ) (file : F) → IsNamedAt name place self.old.files.items → IsFileAt place self.old.files.items file
             → Awaiting name file Awaits.Everything self.new.files.items }
         ensures cut { (file : F) → IsFileAt place self.old.files.items file → OnOk result (R.file_answered (CutTo to) file) }
+        ensures refused { (file : F) → IsFileAt place self.old.files.items file → OnErr result (R.failed (CallFile file (CutTo to))) }
         ensures once { (file : F) → IsFileAt place self.old.files.items file → R.one_act system.old system.new (CallFile file (CutTo to)) }
         ensures still { StillAwaits self.old.files.items self.new.files.items }
         ensures only { OpensNone self.old.files.items self.new.files.items }
@@ -272,6 +279,7 @@ impl<F: SystemFile + Drop> KeptFiles<F> {
         ensures settled { OnOk result (All AwaitsNothing self.new.files.items × (self.new.names_await ≡ false)) }
         ensures failed { OnErr result (SettlingFailed R.failed) }
         ensures directory { self.new.directory ≡ self.old.directory }
+        ensures done { OnOk result (ActsOnly R.one_done IsSettling system.old system.new) }
         ensures turns { SettlesInTurn R.one_act self.old system.old system.new }
         ensures acts { ActsOnly R.one_act IsSettling system.old system.new }
     {

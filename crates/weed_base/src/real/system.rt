@@ -65,9 +65,13 @@ pub trait System {
     /// That one act led from here to there. Generic code has this from the call alone.
     ghost one_act: { Self → Self → Act Self.File → Type 0 };
 
+    /// The same of one that answered Ok.
+    ghost one_done: { Self → Self → Act Self.File → Type 0 };
+
     /// Makes a directory where nothing is there.
     fn make_directory(&mut self, path: &str) -> io::Result<()>
         ensures made { OnOk result (answered (MadeDirectory path.now)) }
+        ensures done { OnOk result (one_done self.old self.new (MakeDirectory path.now)) }
         ensures once { one_act self.old self.new (MakeDirectory path.now) };
 
     /// Opens a directory or a file to be settled.
@@ -86,11 +90,13 @@ pub trait System {
     /// Removes a file, where it is there.
     fn remove_file(&mut self, path: &str) -> io::Result<()>
         ensures removed { OnOk result (answered (Removed path.now)) }
+        ensures failed { OnErr result (failed (RemoveFile path.now)) }
         ensures once { one_act self.old self.new (RemoveFile path.now) };
 
     /// Renames a file, which takes the place of what had the new name.
     fn rename_file(&mut self, from: &str, to: &str) -> io::Result<()>
         ensures renamed { OnOk result (answered (Renamed from.now to.now)) }
+        ensures failed { OnErr result (failed (RenameFile from.now to.now)) }
         ensures once { one_act self.old self.new (RenameFile from.now to.now) };
 
     /// The names of files in a directory, in any order. Other names are left out.
@@ -101,23 +107,27 @@ pub trait System {
     /// Writes all of the piece to the file, from byte `at` on.
     fn write_piece(&mut self, file: &Self::File, at: u64, piece: &[u8]) -> io::Result<()>
         ensures written { OnOk result (file_answered (Write at piece.now) file.now) }
+        ensures failed { OnErr result (failed (CallFile file.now (Write at piece.now))) }
         ensures once { one_act self.old self.new (CallFile file.now (Write at piece.now)) };
 
     /// Cuts the file to that length in bytes.
     fn cut(&mut self, file: &Self::File, to: u64) -> io::Result<()>
         ensures cut { OnOk result (file_answered (CutTo to) file.now) }
+        ensures failed { OnErr result (failed (CallFile file.now (CutTo to))) }
         ensures once { one_act self.old self.new (CallFile file.now (CutTo to)) };
 
     /// Settles the file's bytes, and its length.
     fn settle_data(&mut self, file: &Self::File) -> io::Result<()>
         ensures settled { OnOk result (file_answered SettleData file.now) }
         ensures failed { OnErr result (failed (CallFile file.now SettleData)) }
+        ensures done { OnOk result (one_done self.old self.new (CallFile file.now SettleData)) }
         ensures once { one_act self.old self.new (CallFile file.now SettleData) };
 
     /// Settles all of the file, and of a directory the names.
     fn settle_all(&mut self, file: &Self::File) -> io::Result<()>
         ensures settled { OnOk result (file_answered SettleAll file.now) }
         ensures failed { OnErr result (failed (CallFile file.now SettleAll)) }
+        ensures done { OnOk result (one_done self.old self.new (CallFile file.now SettleAll)) }
         ensures once { one_act self.old self.new (CallFile file.now SettleAll) };
 }
 
@@ -133,6 +143,8 @@ impl<R: Files<File = File> + AllocGlobal + Clone + Drop> System for R {
     ghost unlisted = { λ _. ⊤ };
 
     ghost one_act = { λ _ _ _. ⊤ };
+
+    ghost one_done = { λ _ _ _. ⊤ };
 
     fn make_directory(&mut self, path: &str) -> io::Result<()> {
         match fs::create_dir(&*self, path) {

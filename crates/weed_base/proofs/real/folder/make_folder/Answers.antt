@@ -1,5 +1,5 @@
 use Rattle.std.proofs.Common.{ℕ, List, refl, subst, inl, inr}
-use Rattle.weed_base.specs.System.{PathCall, MakeDirectory, OpenedToSettle}
+use Rattle.weed_base.specs.System.{MakeDirectory, OpenedToSettle}
 use Rattle.weed_base.proofs.AwaitingLemmas.{on_ok}
 use Rattle.weed_base.proofs.ActLemmas.{acts_none, acts_one, acts_more, acts_once}
 use Rattle.weed_base.proofs.real.folder.make_folder.Goals as goal
@@ -14,5 +14,5 @@ returns-clause-acts g c =
 
 pub returns-clause-made : goal.returns-clause-made
 returns-clause-made g c =
-    on_ok c.settle_at.result (λ settled. (_, _, settled.0, c.make_directory.ensures.once, c.in_ok-make_directory.ensures.made, subst (λ (path : List ℕ). g.R.System.answered (OpenedToSettle path settled.0)) c.directory_above.ensures settled.1, settled.2, settled.3, acts_none g.R.System.one_act refl))
+    on_ok c.settle_at.result (λ settled. (_, _, settled.0, c.in_ok-make_directory.ensures.done, c.in_ok-make_directory.ensures.made, subst (λ (path : List ℕ). g.R.System.answered (OpenedToSettle path settled.0)) c.directory_above.ensures settled.1, settled.2, settled.3, acts_none g.R.System.one_done refl))
     c.settle_at.ensures.settled

@@ -1,8 +1,8 @@
 use Rattle.std.proofs.Common.{ℕ, List, subst, ◌∙◌, inl, inr}
-use Rattle.weed_base.specs.System.{path_in}
+use Rattle.weed_base.specs.System.{CallFile, SettleAll, path_in}
 use Rattle.weed_base.specs.Folder.{IsSettledAt}
 use Rattle.weed_base.proofs.ListLemmas.{same_or_other, below_other}
-use Rattle.weed_base.proofs.ActLemmas.{acts_more}
+use Rattle.weed_base.proofs.ActLemmas.{acts_one, acts_along, acts_more}
 use Rattle.weed_base.proofs.FolderLemmas.{get_or_is}
 use Rattle.weed_base.proofs.real.folder.settle_each.Goals as goal
 
@@ -18,6 +18,7 @@ loop-name-preserved g c = (
         | inr other ↦ c.loop-name.invariant.0 k d (below_other k c.loop-name.name-index below other)
       ],
   acts_more g.R.System.one_act c.loop-name.invariant.1 c.settle_at.ensures.acts,
+  acts_along g.R.System.one_done c.loop-name.invariant.2 (let done = c.in_ok-settle_at.ensures.settled in acts_one g.R.System.one_done (CallFile done.0 SettleAll) tt done.3),
 )
 
 pub returns-in_err-settle_at-clause-acts : goal.returns-in_err-settle_at-clause-acts

@@ -8,3 +8,4 @@ abbrev pub invariant-loop-name : goal.invariant-loop-name
 invariant-loop-name g l =
     ((k : ℕ) (d : List ℕ) → k < l.name-index → IsSettledAt g.R.System.answered g.R.System.file_answered (path_in l.directory (get_or l.names k d)))
     × ActsOnly g.R.System.one_act IsSettling l.initial.system l.system
+    × ActsOnly g.R.System.one_done IsSettling l.initial.system l.system

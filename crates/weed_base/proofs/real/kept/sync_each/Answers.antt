@@ -22,7 +22,8 @@ loop-kept-preserved g c = (
   nothing_set c.loop-kept.files c.loop-kept.kept-index c.sync.new.self (omega arith) c.loop-kept.invariant.1 c.in_ok-sync.ensures.settled,
   λ k d above. grind (arith, common_steps, c.loop-kept.invariant.2 k d),
   acts_more g.R.System.one_act c.loop-kept.invariant.3 c.sync.ensures.acts,
-  settles_next g.R.System.one_act c.args.files.now c.loop-kept.files c.loop-kept.kept-index _ _ _ _ c.loop-kept.invariant.4 (omega arith) (c.loop-kept.invariant.2 c.loop-kept.kept-index) (ap (λ item. get_or c.loop-kept.files c.loop-kept.kept-index item) c.kept-item.is) c.sync.ensures.once,
+  acts_more g.R.System.one_done c.loop-kept.invariant.4 c.in_ok-sync.ensures.done,
+  settles_next g.R.System.one_act c.args.files.now c.loop-kept.files c.loop-kept.kept-index _ _ _ _ c.loop-kept.invariant.5 (omega arith) (c.loop-kept.invariant.2 c.loop-kept.kept-index) (ap (λ item. get_or c.loop-kept.files c.loop-kept.kept-index item) c.kept-item.is) c.sync.ensures.once,
 )
 
 pub returns-in_err-sync-clause-acts : goal.returns-in_err-sync-clause-acts
@@ -32,5 +33,5 @@ pub returns-in_err-sync-clause-turns : goal.returns-in_err-sync-clause-turns
 returns-in_err-sync-clause-turns g c = (
   c.loop-kept.kept-index + 1,
   omega (arith, c.loop-kept.invariant.0.0),
-  settles_next g.R.System.one_act c.args.files.now c.loop-kept.files c.loop-kept.kept-index _ _ _ _ c.loop-kept.invariant.4 (omega arith) (c.loop-kept.invariant.2 c.loop-kept.kept-index) (ap (λ item. get_or c.loop-kept.files c.loop-kept.kept-index item) c.kept-item.is) c.sync.ensures.once,
+  settles_next g.R.System.one_act c.args.files.now c.loop-kept.files c.loop-kept.kept-index _ _ _ _ c.loop-kept.invariant.5 (omega arith) (c.loop-kept.invariant.2 c.loop-kept.kept-index) (ap (λ item. get_or c.loop-kept.files c.loop-kept.kept-index item) c.kept-item.is) c.sync.ensures.once,
 )

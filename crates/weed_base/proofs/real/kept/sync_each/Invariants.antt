@@ -11,4 +11,5 @@ invariant-loop-kept g l =
     × ((k : ℕ) (d : KeptFile g.row.F.Denot) → k < l.kept-index → AwaitsNothing (get_or l.files k d))
     × ((k : ℕ) (d : KeptFile g.row.F.Denot) → l.kept-index ≤ k → get_or l.files k d ≡ get_or l.initial.files k d)
     × ActsOnly g.R.System.one_act IsSettling l.initial.system l.system
+    × ActsOnly g.R.System.one_done IsSettling l.initial.system l.system
     × SettlesFirst g.R.System.one_act l.initial.files l.kept-index l.initial.system l.system

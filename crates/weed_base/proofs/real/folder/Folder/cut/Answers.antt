@@ -1,10 +1,10 @@
 use Rattle.std.proofs.Common.{◌∙◌, subst, inl, inr, refl}
-use Rattle.std.specs.Prelude.{IfSome}
+use Rattle.std.specs.Prelude.{IfSome, OnErr}
 use Rattle.weed_base.specs.System.{CutTo, CallFile}
 use Rattle.weed_base.specs.Awaiting.{Awaiting, IsNamedAt}
 use Rattle.weed_base.specs.Folder.{path_of}
 use Rattle.weed_base.specs.declared.real.kept.Awaits.TheVariants.{Everything}
-use Rattle.weed_base.proofs.AwaitingLemmas.{on_ok}
+use Rattle.weed_base.proofs.AwaitingLemmas.{on_ok, on_err}
 use Rattle.weed_base.proofs.FolderLemmas.{at_found, of_place, of_placed, keeps_along, keeps_by, opens_none, marks_along, marks_none}
 use Rattle.weed_base.proofs.real.folder.Folder.cut.Goals as goal
 
@@ -39,3 +39,9 @@ returns-in-Some-clause-acts g c =
     of_place g.R.System.answered (path_of c.args.self.now c.args.name.now) _ _ _ c.in-Some.place (λ file. g.R.System.one_act _ _ (CallFile file (CutTo c.args.to)))
     (at_found _ _ _ _ c.in-Some.is c.in_ok-place.ensures.opened) c.cut.ensures.once
     (λ file asked at once. inr (CallFile file (CutTo c.args.to), (file, asked, (refl, c.cut.ensures.marked c.args.name.now file named at)), once))
+
+pub returns-in-Some-clause-refused : goal.returns-in-Some-clause-refused
+returns-in-Some-clause-refused g c =
+    of_place g.R.System.answered (path_of c.args.self.now c.args.name.now) _ _ _ c.in-Some.place (λ file. OnErr c.cut.result (g.R.System.failed (CallFile file (CutTo c.args.to))))
+    (at_found _ _ _ _ c.in-Some.is c.in_ok-place.ensures.opened) c.cut.ensures.refused
+    (λ file asked at then. on_err c.cut.result (λ failed. inr (file, asked, failed)) then)

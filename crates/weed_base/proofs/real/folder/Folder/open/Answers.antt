@@ -1,4 +1,4 @@
-use Rattle.std.proofs.Common.{ℕ, List, ◌≡◌, inl, refl, subst, sym, ◌∙◌}
+use Rattle.std.proofs.Common.{ℕ, List, inl, subst, sym, ◌∙◌}
 use Rattle.std.specs.List.{All}
 use Rattle.weed_base.specs.System.{PathCall, OpenedToSettle, Listed, SettleAll, CallFile, path_in}
 use Rattle.weed_base.specs.Folder.{IsSettledAt}
@@ -54,6 +54,6 @@ returns-clause-acts g c =
 
 pub returns-clause-made : goal.returns-clause-made
 returns-clause-made g c =
-    let one_act = g.R.System.one_act in
-    makes_along one_act g.R.System.answered g.R.System.file_answered c.in_ok-path.ensures c.in_ok-make_folder.ensures.made
-    (acts_along one_act c.settle_each.ensures.acts (acts_one one_act (CallFile _ SettleAll) tt c.settle_all.ensures.once))
+    let one_done = g.R.System.one_done in
+    makes_along one_done g.R.System.answered g.R.System.file_answered c.in_ok-path.ensures c.in_ok-make_folder.ensures.made
+    (acts_along one_done c.in_ok-settle_each.ensures.done (acts_one one_done (CallFile _ SettleAll) tt c.in_ok-settle_all.ensures.done))

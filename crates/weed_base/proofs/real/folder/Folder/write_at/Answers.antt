@@ -1,10 +1,10 @@
-use Rattle.std.proofs.Common.{◌≡◌, ◌<◌, ◌+◌, ◌^◌, length, ◌∙◌, subst, inl}
-use Rattle.std.specs.Prelude.{IfSome}
+use Rattle.std.proofs.Common.{◌≡◌, ◌<◌, ◌+◌, ◌^◌, length, ◌⊎◌, ◌∙◌, subst, inl, inr}
+use Rattle.std.specs.Prelude.{IfSome, OnErr}
 use Rattle.weed_base.specs.System.{Write, CallFile, ActsOnce}
 use Rattle.weed_base.specs.Awaiting.{Awaiting, IsNamedAt}
 use Rattle.weed_base.specs.Folder.{path_of}
 use Rattle.weed_base.specs.declared.real.kept.Awaits.TheVariants.{Data}
-use Rattle.weed_base.proofs.AwaitingLemmas.{both_ok}
+use Rattle.weed_base.proofs.AwaitingLemmas.{both_ok, on_err}
 use Rattle.weed_base.proofs.ActLemmas.{acts_once}
 use Rattle.weed_base.proofs.FolderLemmas.{at_found, of_place, of_placed, keeps_along, keeps_by, opens_none, marks_along, marks_none}
 use Rattle.weed_base.proofs.real.folder.Folder.write_at.Goals as goal
@@ -40,3 +40,9 @@ returns-in-Some-clause-acts g c =
     of_place g.R.System.answered (path_of c.args.self.now c.args.name.now) _ _ _ c.in-Some.place (λ file. ActsOnce g.R.System.one_act (λ act. (act ≡ CallFile file (Write c.args.at c.args.piece.now)) × (c.args.at + length c.args.piece.now < 2 ^ 63)) _ _)
     (at_found _ _ _ _ c.in-Some.is c.in_ok-place.ensures.opened) c.write_at.ensures.acts
     (λ file asked at once. acts_once g.R.System.one_act (λ act is. ((file, asked, (is.0, c.write_at.ensures.marked c.args.name.now file named at is.1)), is.1)) once)
+
+pub returns-in-Some-clause-refused : goal.returns-in-Some-clause-refused
+returns-in-Some-clause-refused g c =
+    of_place g.R.System.answered (path_of c.args.self.now c.args.name.now) _ _ _ c.in-Some.place (λ file. OnErr c.write_at.result ((c.write_at.new.system ≡ c.args.system.now) ⊎ g.R.System.failed (CallFile file (Write c.args.at c.args.piece.now))))
+    (at_found _ _ _ _ c.in-Some.is c.in_ok-place.ensures.opened) c.write_at.ensures.refused
+    (λ file asked at then. on_err c.write_at.result (λ either. elim either [ inl same ↦ inl same | inr failed ↦ inr (file, asked, failed) ]) then)

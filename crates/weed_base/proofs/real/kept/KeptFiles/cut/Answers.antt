@@ -1,5 +1,6 @@
 use Rattle.std.proofs.Common.{◌≡◌, sym, subst, ap, ◌∙◌, OnOk, inr}
-use Rattle.weed_base.specs.System.{CutTo}
+use Rattle.std.specs.Prelude.{OnErr}
+use Rattle.weed_base.specs.System.{CutTo, CallFile}
 use Rattle.weed_base.specs.Awaiting.{Covers}
 use Rattle.weed_base.specs.declared.real.kept.Awaits.TheVariants.{Everything}
 use Rattle.weed_base.proofs.ListLemmas.{set_any}
@@ -26,3 +27,7 @@ pub returns-clause-more : goal.returns-clause-more
 returns-clause-more g c = λ name named.
     no_more_set (λ other mark. name ≡ other) _ _ c.index_mut.result.now c.cut.new.self c.requires c.index_mut.ensures.value c.cut.ensures.name c.cut.ensures.file
     (λ mark something covers. inr (sym (ap (λ kept. kept.name) c.index_mut.ensures.value ∙ named.1 c.index_mut.result.now)))
+
+pub returns-clause-refused : goal.returns-clause-refused
+returns-clause-refused g c = λ file at.
+    subst (λ (asked : g.row.F.Denot). OnErr c.cut.result (g.R.System.failed (CallFile asked (CutTo c.args.to)))) (ap (λ kept. kept.file) c.index_mut.ensures.value ∙ at c.index_mut.result.now) c.cut.ensures.refused

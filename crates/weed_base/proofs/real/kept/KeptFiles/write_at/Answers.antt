@@ -1,5 +1,6 @@
-use Rattle.std.proofs.Common.{◌≡◌, sym, subst, ap, ◌∙◌, OnOk, inl, inr}
-use Rattle.weed_base.specs.System.{Write}
+use Rattle.std.proofs.Common.{◌≡◌, sym, subst, ap, ◌∙◌, OnOk, ◌⊎◌, inl, inr}
+use Rattle.std.specs.Prelude.{OnErr}
+use Rattle.weed_base.specs.System.{Write, CallFile}
 use Rattle.weed_base.specs.Awaiting.{Covers}
 use Rattle.weed_base.specs.declared.real.kept.Awaits.TheVariants.{Data}
 use Rattle.weed_base.proofs.ListLemmas.{set_any}
@@ -27,3 +28,8 @@ returns-clause-more g c = λ name named.
     let is = ap (λ kept. kept.name) c.index_mut.ensures.value ∙ named.1 c.index_mut.result.now in
     no_more_set (λ other mark. (name ≡ other) × (mark ≡ Data)) _ _ c.index_mut.result.now c.write_at.new.self c.requires c.index_mut.ensures.value c.write_at.ensures.name c.write_at.ensures.file
     (λ mark something covers. elim (rises_to_data _ _ mark c.write_at.ensures.mark something covers) [ inl was ↦ inl was | inr is_data ↦ inr (sym is, is_data) ])
+
+pub returns-clause-refused : goal.returns-clause-refused
+returns-clause-refused g c = λ file at.
+    subst (λ (asked : g.row.F.Denot). OnErr c.write_at.result ((c.write_at.new.system ≡ c.args.system.now) ⊎ g.R.System.failed (CallFile asked (Write c.args.at c.args.piece.now))))
+    (ap (λ kept. kept.file) c.index_mut.ensures.value ∙ at c.index_mut.result.now) c.write_at.ensures.refused
