@@ -7,8 +7,3 @@ pub mod ImageLemmas
 pub mod HistoryLemmas
 pub mod ReplayLemmas
 pub mod DiskCallLemmas
-pub mod StreamLemmas
-pub mod ListLemmas
-pub mod AwaitingLemmas
-pub mod FolderLemmas
-pub mod ActLemmas

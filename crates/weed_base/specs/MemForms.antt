@@ -3,7 +3,6 @@ use Rattle.std.specs.Prelude.{◌≡◌, ◌<◌, ◌⊎◌, ◌-◌, ◌^◌, �
 use Rattle.std.specs.Coded.{Coded, code_by, coded×, coded_list, coded_ℕ}
 use Rattle.std.specs.FinMap.{code}
 use Rattle.weed_base.specs.Told.{raised}
-use Rattle.weed_base.specs.Attachment.{Attachment, attachment_code, unattached}
 use Rattle.weed_base.specs.Calls.{CallState, fails_next, uncalled, IsNextCall}
 use Rattle.weed_base.specs.Files.{Files}
 use Rattle.weed_base.specs.History.{reads, Image, ImageSince}
@@ -25,14 +24,13 @@ pub record SinkState : Type 0 where
   pub most : ℕ
   pub calls : CallState
 
--- A disk: its files at the start, the calls that changed or settled them, the newest first, its calls, how many
--- failed writes it lacked memory to keep, and where it was turned to.
+-- A disk: its files at the start, the calls that changed or settled them, the newest first, its calls, and how many
+-- failed writes it lacked memory to keep.
 pub record DiskState : Type 0 where
   pub start : Files
   pub past : List Call
   pub calls : CallState
   pub untold : ℕ
-  pub attachment : Attachment
 
 -- The code of calls: that of the fields.
 abbrev pub calls_code : Coded CallState
@@ -45,14 +43,14 @@ calls_code =
 -- The code of what a disk holds: that of its fields.
 abbrev pub disk_code : Coded DiskState
 disk_code =
-    code_by (Files × (List Call × (CallState × (ℕ × Attachment)))) (coded× (code (coded_list coded_ℕ) (coded_list coded_ℕ)) (coded× (coded_list call.the_row.coded) (coded× calls_code (coded× coded_ℕ attachment_code))))
-    (λ disk. (disk.start, (disk.past, (disk.calls, (disk.untold, disk.attachment)))))
-    (λ p. record { start = p.0; past = p.1.0; calls = p.1.1.0; untold = p.1.1.1.0; attachment = p.1.1.1.1 })
+    code_by (Files × (List Call × (CallState × ℕ))) (coded× (code (coded_list coded_ℕ) (coded_list coded_ℕ)) (coded× (coded_list call.the_row.coded) (coded× calls_code coded_ℕ)))
+    (λ disk. (disk.start, (disk.past, (disk.calls, disk.untold))))
+    (λ p. record { start = p.0; past = p.1.0; calls = p.1.1.0; untold = p.1.1.1 })
     (λ _. refl)
 
 -- A disk of these files, all of them settled, of which the calls with these numbers fail.
 abbrev pub disk_of : Files → List ℕ → DiskState
-disk_of files failing = record { start = files; past = []; calls = uncalled failing; untold = 0; attachment = unattached }
+disk_of files failing = record { start = files; past = []; calls = uncalled failing; untold = 0 }
 
 -- The files as they read now.
 abbrev pub present : DiskState → Files
@@ -70,7 +68,6 @@ images_since disk = ImageSince disk.start disk.past disk.calls.made
 pub record IsDiskCall {T E : Type 0} (old new : DiskState) (result : Result T E) : Type 0 where
   pub next : IsNextCall old.calls new.calls
   pub start : new.start ≡ old.start
-  pub attachment : new.attachment ≡ old.attachment
   pub fails : IsTrue (fails_next old.calls) → IsErr result
 
 -- The calls with one more, which made a change.
@@ -102,14 +99,14 @@ WritesOrTears name at piece old new result =
     (λ _. (new.past ≡ with_call (Written name at piece) old) × (new.untold ≡ old.untold))
     (λ _. LeavesTorn (Torn name at (length piece)) old new)
 
--- An outlet: the pieces sent, the most that one send takes, and its sends.
-pub record OutletState : Type 0 where
+-- A sender: the pieces sent, the most that one send takes, and its sends.
+pub record SenderState : Type 0 where
   pub pieces : List Piece
   pub most : ℕ
   pub sends : CallState
 
--- A send of a memory outlet has its number, fails where the outlet was told so, and takes as much as it may.
-pub record IsOutletSend {E : Type 0} (old new : OutletState) (piece : List ℕ) (result : Result ℕ E) : Type 0 where
+-- A send of a memory sender has its number, fails where the sender was told so, and takes as much as it may.
+pub record IsNextSend {E : Type 0} (old new : SenderState) (piece : List ℕ) (result : Result ℕ E) : Type 0 where
   pub count : IfOk result (λ count. count ≡ min (length piece) old.most)
   pub fails : IsTrue (fails_next old.sends) → IsErr result
   pub sends : IsNextCall old.sends new.sends
@@ -119,10 +116,10 @@ pub record IsOutletSend {E : Type 0} (old new : OutletState) (piece : List ℕ) 
 abbrev pub piece_code : Coded Piece
 piece_code = code_by (ℕ × List ℕ) (coded× coded_ℕ (coded_list coded_ℕ)) (λ piece. (piece.tick, piece.bytes)) (λ p. record { tick = p.0; bytes = p.1 }) (λ _. refl)
 
--- The code of what an outlet holds: that of its fields.
-abbrev pub outlet_code : Coded OutletState
-outlet_code =
+-- The code of what a sender holds: that of its fields.
+abbrev pub sender_code : Coded SenderState
+sender_code =
     code_by (List Piece × (ℕ × CallState)) (coded× (coded_list piece_code) (coded× coded_ℕ calls_code))
-    (λ outlet. (outlet.pieces, (outlet.most, outlet.sends)))
+    (λ sender. (sender.pieces, (sender.most, sender.sends)))
     (λ p. record { pieces = p.0; most = p.1.0; sends = p.1.1 })
     (λ _. refl)

@@ -22,7 +22,3 @@ Sends tick old new result piece =
     MatchResult result
     (λ n. (n ≤ length piece) × (new ≡ option_map (λ pieces. pieces ++ record { tick = tick; bytes = take n piece } ∷ []) old))
     (λ _. new ≡ old)
-
--- Nothing was sent over it, and no send failed.
-abbrev pub SendsNothing : {D : Type 0} → (D → Option (List Piece)) → (D → ℕ) → D → D → Type 0
-SendsNothing sent send_faults old new = (sent new ≡ sent old) × (send_faults new ≡ send_faults old)

@@ -3,13 +3,9 @@ ghost use Rattle.std.specs.Option.{option_map};
 ghost use Rattle.std.specs.FinMap.{get, keys};
 ghost use Rattle.weed_base.specs.Told.{HasCause, HasWriteCause, IsCauseOf};
 ghost use Rattle.weed_base.specs.Files.{Files, IsWithin, IsThere, written, cut_to, made, removed, renamed, content, MayWrite, BothTold, Changes, ReadsAt, MayBeNamed};
-ghost use Rattle.weed_base.specs.Images.{NoMore, Only, Follows, Tears, Takes, where_there, Elapses, StandsStill};
-ghost use Rattle.weed_base.specs.Attachment.{Attachment, Attaches};
-ghost use Rattle.weed_base.specs.Sent.{Piece, Sends, SendsNothing};
+ghost use Rattle.weed_base.specs.Images.{NoMore, Only, Follows, Tears, Takes, where_there, Elapses};
+ghost use Rattle.weed_base.specs.Sent.{Piece, Sends};
 ghost use Rattle.weed_base.specs.declared.disk.NamesFault.TheVariants.{Memory};
-ghost use Rattle.weed_base.specs.Beside.{StaysBeside};
-ghost use Rattle.weed_base.specs.DiskCall.{DiskCall};
-ghost use Rattle.weed_base.specs.DiskCall.DiskCall.{AttachTo, ListNames, SizeOf, ReadInto, WriteAt, CutTo, Make, Remove, Rename, Settle};
 
 use crate::bytes::Word;
 use crate::file_name::FileName;
@@ -50,8 +46,7 @@ pub(crate) fn ends_in_file(at: u64, count: usize) -> bool
     at < 1 << 63 && (count as u64) < (1 << 63) - at
 }
 
-/// A set of named files. What is sent over a disk that is a host's stands beside them, and no call of a
-/// disk changes it.
+/// A set of named files.
 pub trait Disk {
     /// The disk has only files whose names begin with `marks.`.
     const MARKS_ONLY: bool;
@@ -64,15 +59,6 @@ pub trait Disk {
     /// How many calls failed.
     ghost faults: { Self → ℕ };
 
-    /// The pieces sent, where told.
-    ghost sent: { Self → Option (List Piece) };
-
-    /// How many sends failed.
-    ghost send_faults: { Self → ℕ };
-
-    /// Where the disk was turned to.
-    ghost attachment: { Self → Attachment };
-
     /// How many calls were made.
     ghost tick: { Self → ℕ };
 
@@ -82,27 +68,24 @@ pub trait Disk {
     /// What a crash at some moment from that tick on might have left.
     ghost image_since: { Self → ℕ → Files → Type 0 };
 
-    /// How many calls did more than look, where that is counted.
-    ghost acted: { Self → ℕ };
+    /// What stands beside the disk.
+    ghost Beside: { Type 0 };
 
-    /// That one call led from here to there. Generic code has this from the call alone.
-    ghost one_call: { Self → Self → DiskCall → Type 0 };
+    /// What stands beside it now. No call of the disk changes it.
+    ghost beside: { Self → Beside };
 
     /// The number of calls so far. It is no call itself. At 2^64 - 1 each call fails.
     fn tick(&self) -> u64
         ensures { result ≡ tick self.now };
 
     /// Turns to the directory at that place, which the real form makes where it isn't there. Memory forms
-    /// keep their files, and note the place.
-    fn attach(&mut self, place: Word) -> Result<(), Failed>
-        ensures attached { Attaches place (tick self.old) (attachment self.old) (attachment self.new) result }
+    /// keep their files.
+    fn attach(&mut self, place: &Word) -> Result<(), Failed>
         ensures files { files self.new ≡ files self.old }
         ensures images { NoMore (images self.old) (images self.new) }
         ensures time { Elapses (tick self.old) (tick self.new) (image_since self.old) (image_since self.new) (images self.new) }
         ensures cause { HasCause (faults self.old) (faults self.new) result }
-        ensures sent { SendsNothing sent send_faults self.old self.new }
-        ensures acts { acted self.new ≤ acted self.old + 1 }
-        ensures once { one_call self.old self.new (AttachTo place) }
+        ensures beside { beside self.new ≡ beside self.old }
         ensures spent { tick self.old ≡ 2 ^ 64 - 1 → IsErr result };
 
     /// All names, in byte order.
@@ -112,9 +95,7 @@ pub trait Disk {
         ensures images { NoMore (images self.old) (images self.new) }
         ensures time { Elapses (tick self.old) (tick self.new) (image_since self.old) (image_since self.new) (images self.new) }
         ensures cause { IsCauseOf (faults self.old) (faults self.new) (IsErrOf result NamesFault.Failed) }
-        ensures beside { StaysBeside sent send_faults attachment self.old self.new }
-        ensures looks { acted self.new ≡ acted self.old }
-        ensures once { one_call self.old self.new ListNames }
+        ensures beside { beside self.new ≡ beside self.old }
         ensures spent { tick self.old ≡ 2 ^ 64 - 1 → IsErr result };
 
     /// The length of a file in bytes; `None` exactly where it isn't there.
@@ -124,9 +105,7 @@ pub trait Disk {
         ensures images { NoMore (images self.old) (images self.new) }
         ensures time { Elapses (tick self.old) (tick self.new) (image_since self.old) (image_since self.new) (images self.new) }
         ensures cause { HasCause (faults self.old) (faults self.new) result }
-        ensures beside { StaysBeside sent send_faults attachment self.old self.new }
-        ensures looks { acted self.new ≡ acted self.old }
-        ensures once { one_call self.old self.new (SizeOf name.now) }
+        ensures beside { beside self.new ≡ beside self.old }
         ensures spent { tick self.old ≡ 2 ^ 64 - 1 → IsErr result };
 
     /// Puts the file's bytes from `at` on into the front of `room`, as many as there are and fit, and
@@ -138,9 +117,7 @@ pub trait Disk {
         ensures images { NoMore (images self.old) (images self.new) }
         ensures time { Elapses (tick self.old) (tick self.new) (image_since self.old) (image_since self.new) (images self.new) }
         ensures cause { HasCause (faults self.old) (faults self.new) result }
-        ensures beside { StaysBeside sent send_faults attachment self.old self.new }
-        ensures looks { acted self.new ≡ acted self.old }
-        ensures once { one_call self.old self.new (ReadInto name.now at room.old room.new) }
+        ensures beside { beside self.new ≡ beside self.old }
         ensures spent { tick self.old ≡ 2 ^ 64 - 1 → IsErr result };
 
     /// Writes the piece over what is there, and past the end. A write whose end would pass 2^63 - 1 fails.
@@ -154,9 +131,7 @@ pub trait Disk {
         ensures images { Follows (Tears name.now at (length piece.now)) (images self.old) (images self.new) }
         ensures time { Elapses (tick self.old) (tick self.new) (image_since self.old) (image_since self.new) (images self.new) }
         ensures cause { HasCause (faults self.old) (faults self.new) result }
-        ensures beside { StaysBeside sent send_faults attachment self.old self.new }
-        ensures acts { acted self.new ≤ acted self.old + 1 }
-        ensures once { one_call self.old self.new (WriteAt name.now at piece.now) }
+        ensures beside { beside self.new ≡ beside self.old }
         ensures spent { tick self.old ≡ 2 ^ 64 - 1 → IsErr result };
 
     /// Cuts a file to a length. After a failure it reads as before or as after.
@@ -166,9 +141,7 @@ pub trait Disk {
         ensures images { Follows (Takes (where_there name.now (cut_to name.now to))) (images self.old) (images self.new) }
         ensures time { Elapses (tick self.old) (tick self.new) (image_since self.old) (image_since self.new) (images self.new) }
         ensures cause { HasCause (faults self.old) (faults self.new) result }
-        ensures beside { StaysBeside sent send_faults attachment self.old self.new }
-        ensures acts { acted self.new ≤ acted self.old + 1 }
-        ensures once { one_call self.old self.new (CutTo name.now to) }
+        ensures beside { beside self.new ≡ beside self.old }
         ensures spent { tick self.old ≡ 2 ^ 64 - 1 → IsErr result };
 
     /// Makes the file, there and empty. After a failure it reads as before or as after.
@@ -178,9 +151,7 @@ pub trait Disk {
         ensures images { Follows (Takes (made name.now)) (images self.old) (images self.new) }
         ensures time { Elapses (tick self.old) (tick self.new) (image_since self.old) (image_since self.new) (images self.new) }
         ensures cause { HasCause (faults self.old) (faults self.new) result }
-        ensures beside { StaysBeside sent send_faults attachment self.old self.new }
-        ensures acts { acted self.new ≤ acted self.old + 1 }
-        ensures once { one_call self.old self.new (Make name.now) }
+        ensures beside { beside self.new ≡ beside self.old }
         ensures spent { tick self.old ≡ 2 ^ 64 - 1 → IsErr result };
 
     /// Removes the file, where it is there. After a failure it reads as before or as after.
@@ -189,9 +160,7 @@ pub trait Disk {
         ensures images { Follows (Takes (removed name.now)) (images self.old) (images self.new) }
         ensures time { Elapses (tick self.old) (tick self.new) (image_since self.old) (image_since self.new) (images self.new) }
         ensures cause { HasCause (faults self.old) (faults self.new) result }
-        ensures beside { StaysBeside sent send_faults attachment self.old self.new }
-        ensures acts { acted self.new ≤ acted self.old + 1 }
-        ensures once { one_call self.old self.new (Remove name.now) }
+        ensures beside { beside self.new ≡ beside self.old }
         ensures spent { tick self.old ≡ 2 ^ 64 - 1 → IsErr result };
 
     /// Renames a file, which takes the place of what had the new name. After a failure both names read as
@@ -203,9 +172,7 @@ pub trait Disk {
         ensures images { Follows (Takes (where_there from.now (renamed from.now to.now))) (images self.old) (images self.new) }
         ensures time { Elapses (tick self.old) (tick self.new) (image_since self.old) (image_since self.new) (images self.new) }
         ensures cause { HasCause (faults self.old) (faults self.new) result }
-        ensures beside { StaysBeside sent send_faults attachment self.old self.new }
-        ensures acts { acted self.new ≤ acted self.old + 1 }
-        ensures once { one_call self.old self.new (Rename from.now to.now) }
+        ensures beside { beside self.new ≡ beside self.old }
         ensures spent { tick self.old ≡ 2 ^ 64 - 1 → IsErr result };
 
     /// Settles all files and names.
@@ -215,9 +182,7 @@ pub trait Disk {
         ensures settled { OnOk result (Only (files self.old) (images self.new)) }
         ensures time { Elapses (tick self.old) (tick self.new) (image_since self.old) (image_since self.new) (images self.new) }
         ensures cause { HasCause (faults self.old) (faults self.new) result }
-        ensures beside { StaysBeside sent send_faults attachment self.old self.new }
-        ensures acts { acted self.new ≤ acted self.old + 1 }
-        ensures once { one_call self.old self.new Settle }
+        ensures beside { beside self.new ≡ beside self.old }
         ensures spent { tick self.old ≡ 2 ^ 64 - 1 → IsErr result };
 
     /// This moment is one of those since an earlier one.
@@ -236,13 +201,44 @@ pub trait Disk {
 /// A disk with a way out: what a command answers goes through it, so that a disk can tell what was on it
 /// when a piece went out.
 pub trait Host: Disk {
+    /// The pieces sent, where told.
+    ghost sent: { Self → Option (List Piece) };
+
+    /// How many sends failed.
+    ghost send_faults: { Self → ℕ };
+
+    /// What stands apart from the sends.
+    ghost Apart: { Type 0 };
+
+    /// What stands apart from them now. No send changes it.
+    ghost apart: { Self → Apart };
+
     /// Sends first bytes of the piece, and answers how many, as a sink does.
     fn send(&mut self, piece: &[u8]) -> Result<usize, Failed>
-        ensures pieces { Sends (Self.tick self.old) (Self.sent self.old) (Self.sent self.new) result piece.now }
-        ensures cause { HasWriteCause (Self.send_faults self.old) (Self.send_faults self.new) result piece.now }
-        ensures disk { (Self.files self.new ≡ Self.files self.old) × (Self.faults self.new ≡ Self.faults self.old) }
-        ensures attachment { Self.attachment self.new ≡ Self.attachment self.old }
-        ensures still { StandsStill (Self.tick self.old) (Self.tick self.new) (Self.image_since self.old) (Self.image_since self.new) (Self.images self.old) (Self.images self.new) };
+        ensures pieces { Sends (Self.tick self.old) (sent self.old) (sent self.new) result piece.now }
+        ensures cause { HasWriteCause (send_faults self.old) (send_faults self.new) result piece.now }
+        ensures apart { apart self.new ≡ apart self.old };
+
+    /// A call of the disk leaves what was sent.
+    ghost calls_keep_sent: { (one two : Self) (was : Option (List Piece)) → Self.beside two ≡ Self.beside one → sent one ≡ was → sent two ≡ was };
+
+    /// And the count of failed sends.
+    ghost calls_keep_send_faults: { (one two : Self) (was : ℕ) → Self.beside two ≡ Self.beside one → send_faults one ≡ was → send_faults two ≡ was };
+
+    /// A send leaves what reads give.
+    ghost sends_keep_files: { (one two : Self) (was : Option Files) → apart two ≡ apart one → Self.files one ≡ was → Self.files two ≡ was };
+
+    /// And the count of the disk's faults.
+    ghost sends_keep_faults: { (one two : Self) (was : ℕ) → apart two ≡ apart one → Self.faults one ≡ was → Self.faults two ≡ was };
+
+    /// And the tick.
+    ghost sends_keep_tick: { (one two : Self) (was : ℕ) → apart two ≡ apart one → Self.tick one ≡ was → Self.tick two ≡ was };
+
+    /// And the images.
+    ghost sends_keep_images: { (one two : Self) (image : Files) → apart two ≡ apart one → Self.images two image → Self.images one image };
+
+    /// And those since a moment.
+    ghost sends_keep_since: { (one two : Self) (moment : ℕ) (image : Files) → apart two ≡ apart one → Self.image_since two moment image → Self.image_since one moment image };
 
     /// A host has files of any name.
     ghost whole: { Self.MARKS_ONLY ≡ false };

@@ -1,13 +1,14 @@
 ghost use Rattle.std.specs.Prelude.{◌≡◌, false, refl};
 ghost use Rattle.std.proofs.lemmas.Bool.{false≢true};
-ghost use Rattle.weed_base.specs.Told.{Writes, HasWriteCause};
+ghost use Rattle.std.proofs.Common.{rules};
+ghost use Rattle.weed_base.specs.Told.{HasWriteCause};
 ghost use Rattle.weed_base.specs.Sent.{Sends};
 
 use crate::bytes::Word;
 use crate::disk::{Disk, Host, NamesFault};
 use crate::file_name::FileName;
 use crate::items::Items;
-use crate::outlet::Outlet;
+use crate::sender::Sender;
 use crate::source::Failed;
 use std::alloc::Global;
 
@@ -17,19 +18,19 @@ pub trait WholeDisk: Disk {
     ghost whole: { Self.MARKS_ONLY ≡ false };
 }
 
-/// A host of a disk and an outlet, side by side.
+/// A host of a disk and a sender, side by side.
 #[derive(Debug, Drop)]
 pub struct DiskHost<D, K> {
     disk: D,
-    outlet: K,
+    sender: K,
 }
 
 impl<D, K> DiskHost<D, K> {
-    /// Of this disk, and sending through this outlet.
-    pub fn of(disk: D, outlet: K) -> DiskHost<D, K>
-        ensures { result ≡ record { disk = disk; outlet = outlet } }
+    /// Of this disk, and sending through this sender.
+    pub fn of(disk: D, sender: K) -> DiskHost<D, K>
+        ensures { result ≡ record { disk = disk; sender = sender } }
     {
-        DiskHost { disk, outlet }
+        DiskHost { disk, sender }
     }
 
     /// Its disk.
@@ -40,22 +41,22 @@ impl<D, K> DiskHost<D, K> {
     }
 
     /// What it sends through.
-    pub fn outlet(&self) -> &K
-        ensures { result.now ≡ self.now.outlet }
+    pub fn sender(&self) -> &K
+        ensures { result.now ≡ self.now.sender }
     {
-        &self.outlet
+        &self.sender
     }
 
     /// Both.
     pub(crate) fn into_parts(self) -> (D, K)
-        ensures { result ≡ (self.disk, self.outlet) }
+        ensures { result ≡ (self.disk, self.sender) }
     {
-        let DiskHost { disk, outlet } = self;
-        (disk, outlet)
+        let DiskHost { disk, sender } = self;
+        (disk, sender)
     }
 }
 
-impl<D: WholeDisk, K: Outlet> Disk for DiskHost<D, K> {
+impl<D: WholeDisk, K: Sender> Disk for DiskHost<D, K> {
     const MARKS_ONLY: bool = false;
 
     ghost MARKS_ONLY = { false };
@@ -64,21 +65,15 @@ impl<D: WholeDisk, K: Outlet> Disk for DiskHost<D, K> {
 
     ghost faults = { λ host. D.faults host.disk };
 
-    ghost sent = { λ host. K.sent host.outlet };
-
-    ghost send_faults = { λ host. K.faults host.outlet };
-
-    ghost attachment = { λ host. D.attachment host.disk };
-
     ghost tick = { λ host. D.tick host.disk };
 
     ghost images = { λ host. D.images host.disk };
 
     ghost image_since = { λ host. D.image_since host.disk };
 
-    ghost acted = { λ host. D.acted host.disk };
+    ghost Beside = { D.Beside × K };
 
-    ghost one_call = { λ old new call. D.one_call old.disk new.disk call × (new.outlet ≡ old.outlet) };
+    ghost beside = { λ host. (D.beside host.disk, host.sender) };
 
     ghost counts_now = { λ host. D.counts_now host.disk };
 
@@ -92,7 +87,7 @@ impl<D: WholeDisk, K: Outlet> Disk for DiskHost<D, K> {
         self.disk.tick()
     }
 
-    fn attach(&mut self, place: Word) -> Result<(), Failed> {
+    fn attach(&mut self, place: &Word) -> Result<(), Failed> {
         self.disk.attach(place)
     }
 
@@ -133,15 +128,35 @@ impl<D: WholeDisk, K: Outlet> Disk for DiskHost<D, K> {
     }
 }
 
-impl<D: WholeDisk, K: Outlet> Host for DiskHost<D, K> {
+impl<D: WholeDisk, K: Sender> Host for DiskHost<D, K> {
+    ghost sent = { λ host. K.sent host.sender };
+
+    ghost send_faults = { λ host. K.faults host.sender };
+
+    ghost Apart = { D };
+
+    ghost apart = { λ host. host.disk };
+
+    ghost calls_keep_sent = { Prim.search rules };
+
+    ghost calls_keep_send_faults = { Prim.search rules };
+
+    ghost sends_keep_files = { Prim.search rules };
+
+    ghost sends_keep_faults = { Prim.search rules };
+
+    ghost sends_keep_tick = { Prim.search rules };
+
+    ghost sends_keep_images = { Prim.search rules };
+
+    ghost sends_keep_since = { Prim.search rules };
+
     fn send(&mut self, piece: &[u8]) -> Result<usize, Failed>
-        ensures pieces { Sends (D.tick self.old.disk) (K.sent self.old.outlet) (K.sent self.new.outlet) result piece.now }
-        ensures written { Writes (K.written self.old.outlet) (K.written self.new.outlet) result piece.now }
-        ensures once { K.one_send self.old.outlet self.new.outlet (D.tick self.old.disk) piece.now result }
-        ensures cause { HasWriteCause (K.faults self.old.outlet) (K.faults self.new.outlet) result piece.now }
-        ensures disk { self.new.disk ≡ self.old.disk }
+        ensures pieces { Sends (D.tick self.old.disk) (K.sent self.old.sender) (K.sent self.new.sender) result piece.now }
+        ensures cause { HasWriteCause (K.faults self.old.sender) (K.faults self.new.sender) result piece.now }
+        ensures apart { self.new.disk ≡ self.old.disk }
     {
-        self.outlet.send(self.disk.tick(), piece)
+        self.sender.send(self.disk.tick(), piece)
     }
 
     ghost whole = { refl };

@@ -6,7 +6,7 @@ use std::marker::Model;
 
 /// How many calls of a form of the outside failed.
 #[derive(Debug, Drop)]
-pub(crate) struct Faults {
+pub struct Faults {
     count: u64,
 }
 
@@ -19,20 +19,22 @@ impl Model for Faults {
 }
 
 impl Faults {
-    pub(crate) fn new() -> Faults
+    /// None so far.
+    pub fn new() -> Faults
         ensures { result ≡ 0 }
     {
         Faults { count: 0 }
     }
 
-    pub(crate) fn count(&self) -> u64
+    /// How many failed.
+    pub fn count(&self) -> u64
         ensures { result ≡ self.now }
     {
         self.count
     }
 
     /// Counts one. The count stays at its end.
-    pub(crate) fn raise(&mut self) -> Failed
+    pub fn raise(&mut self) -> Failed
         ensures count { self.new ≡ raised self.old }
         ensures later { self.old ≤ self.new }
     {
@@ -41,7 +43,7 @@ impl Faults {
     }
 
     /// Hands on what a call answered, and counts its error.
-    pub(crate) fn note<T, E: Drop>(&mut self, answer: Result<T, E>) -> Result<T, Failed>
+    pub fn note<T, E: Drop>(&mut self, answer: Result<T, E>) -> Result<T, Failed>
         ensures value { MatchResult answer (λ value. result ≡ Ok value) (λ _. result ≡ Err record {}) }
         ensures cause { HasCause self.old self.new result }
     {
@@ -52,7 +54,7 @@ impl Faults {
     }
 
     /// Hands on what a write of this piece answered, and counts its error, or that it took nothing.
-    pub(crate) fn note_write<E: Drop>(
+    pub fn note_write<E: Drop>(
         &mut self,
         answer: Result<usize, E>,
         piece: &[u8],

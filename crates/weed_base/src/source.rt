@@ -1,6 +1,7 @@
 ghost use Rattle.std.specs.Prelude.{◌≡◌, List, ℕ, Option};
-ghost use Rattle.weed_base.specs.Told.{raised, Reads, HasCause};
+ghost use Rattle.weed_base.specs.Told.{Reads, HasCause};
 
+use crate::course::Course;
 use thiserror::Error;
 
 /// A call of the outside failed, and counted a fault.
@@ -8,25 +9,24 @@ use thiserror::Error;
 #[error("a call of the outside failed")]
 pub struct Failed;
 
-/// What bytes are read from. A read is handed what stands beside the source, as a host, which it leaves alone: so
-/// contracts can say how far that had come when the read was made.
-pub trait Source<B> {
+/// What bytes are read from.
+pub trait Source: Course {
     /// The bytes left, where told.
     ghost left: { Self → Option (List ℕ) };
 
     /// How many reads failed.
     ghost faults: { Self → ℕ };
 
-    /// How many reads were made.
-    ghost reads: { Self → ℕ };
+    /// What stands beside the source.
+    ghost Beside: { Type 0 };
 
-    /// One read beside this led from here to there. Generic code has this from `read` alone.
-    ghost one_read: { Self → Self → B → Type 0 };
+    /// What stands beside it now. No read changes it.
+    ghost beside: { Self → Beside };
 
     /// Reads next bytes into `room`, and answers how many. 0 for room that isn't empty is the end.
-    fn read(&mut self, beside: &B, room: &mut [u8]) -> Result<usize, Failed>
+    fn read(&mut self, room: &mut [u8]) -> Result<usize, Failed>
         ensures bytes { Reads (left self.old) (left self.new) result room.new }
         ensures cause { HasCause (faults self.old) (faults self.new) result }
-        ensures counted { reads self.new ≡ raised (reads self.old) }
-        ensures once { one_read self.old self.new beside.now };
+        ensures beside { beside self.new ≡ beside self.old }
+        ensures course { (start : Self) → Self.course start self.old → Self.course start self.new };
 }

@@ -1,8 +1,8 @@
 //! The calls of the outside through their bounds, for the tests of each form.
 use crate::{Clock, Failed, FileName, Host, Sink, Source};
 
-pub(crate) fn read<S: Source<()>>(source: &mut S, room: &mut [u8]) -> Result<usize, Failed> {
-    source.read(&(), room)
+pub(crate) fn read<S: Source>(source: &mut S, room: &mut [u8]) -> Result<usize, Failed> {
+    source.read(room)
 }
 
 pub(crate) fn write<K: Sink>(sink: &mut K, piece: &[u8]) -> Result<usize, Failed> {

@@ -3,7 +3,6 @@ ghost use Rattle.std.specs.Option.{option_map, option_copied};
 ghost use Rattle.std.specs.FinMap.{get, keys};
 ghost use Rattle.std.proofs.lemmas.Bool.{false≢true};
 ghost use Rattle.weed_base.specs.Told.{HasCause, IsCauseOf};
-ghost use Rattle.weed_base.specs.Attachment.{Attaches};
 ghost use Rattle.weed_base.specs.Calls.{called, fails_next};
 ghost use Rattle.weed_base.specs.Files.{IsWithin, IsThere, written, cut_to, made, removed, renamed, content, MayWrite, Changes, ReadsAt};
 ghost use Rattle.weed_base.specs.Images.{NoMore, Only, Follows, Tears, Takes, where_there, Elapses};
@@ -12,7 +11,6 @@ ghost use Rattle.weed_base.specs.MemForms.{IsDiskCall, Makes, WritesOrTears, dis
 ghost use Rattle.weed_base.specs.NamedBytes.{files_from};
 ghost use Rattle.weed_base.specs.DiskLaws.{counts_now, only_now, reads_now};
 
-use crate::attachment::Attachment;
 use crate::bytes::Word;
 use crate::disk::{Disk, NamesFault};
 use crate::disk_host::WholeDisk;
@@ -39,7 +37,6 @@ pub struct MemDisk {
     past: Vec<Call>,
     calls: Calls,
     untold: Faults,
-    attachment: Attachment,
 }
 
 impl Model for MemDisk {
@@ -52,7 +49,7 @@ impl Model for MemDisk {
 
     ghost coded = { disk_code };
 
-    ghost view = { λ disk. record { start = files_from disk.start.items; past = reverse disk.past.items; calls = disk.calls; untold = disk.untold; attachment = disk.attachment } };
+    ghost view = { λ disk. record { start = files_from disk.start.items; past = reverse disk.past.items; calls = disk.calls; untold = disk.untold } };
 
     ghost invariant = { λ disk. (disk.table ≡ reads (files_from disk.start.items) (reverse disk.past.items)) × IsEarlier disk.calls.made (reverse disk.past.items) };
 }
@@ -73,7 +70,6 @@ impl MemDisk {
             past: Vec::new(alloc),
             calls: Calls::new(failing),
             untold: Faults::new(),
-            attachment: Attachment::new(),
         })
     }
 
@@ -189,21 +185,15 @@ impl Disk for MemDisk {
 
     ghost faults = { λ disk. disk.calls.faults };
 
-    ghost sent = { λ _. Some [] };
-
-    ghost send_faults = { λ _. 0 };
-
-    ghost attachment = { λ disk. disk.attachment };
-
     ghost tick = { λ disk. disk.calls.made };
 
     ghost images = { images };
 
     ghost image_since = { images_since };
 
-    ghost acted = { λ _. 0 };
+    ghost Beside = { Unit {0} };
 
-    ghost one_call = { λ _ _ _. ⊤ };
+    ghost beside = { λ _. tt };
 
     ghost counts_now = { counts_now };
 
@@ -217,8 +207,7 @@ impl Disk for MemDisk {
         self.calls.made()
     }
 
-    fn attach(&mut self, place: Word) -> Result<(), Failed>
-        ensures attached { Attaches place self.old.calls.made self.old.attachment self.new.attachment result }
+    fn attach(&mut self, _place: &Word) -> Result<(), Failed>
         ensures calls { self.new.calls ≡ called self.old.calls }
         ensures only { IsErr result ↔ IsTrue (fails_next self.old.calls) }
         ensures past { (self.new.start ≡ self.old.start) × (self.new.past ≡ self.old.past) × (self.new.untold ≡ self.old.untold) }
@@ -228,10 +217,7 @@ impl Disk for MemDisk {
         ensures cause { HasCause self.old.calls.faults self.new.calls.faults result }
         ensures spent { self.old.calls.made ≡ 2 ^ 64 - 1 → IsErr result }
     {
-        let tick = self.calls.made();
-        self.look()?;
-        self.attachment.turn_to(place, tick);
-        Ok(())
+        self.look()
     }
 
     fn names(&mut self, alloc: Global) -> Result<Items<FileName>, NamesFault>
@@ -253,7 +239,6 @@ impl Disk for MemDisk {
     }
 
     fn size(&mut self, name: &FileName) -> Result<Option<u64>, Failed>
-        ensures attachment { self.new.attachment ≡ self.old.attachment }
         ensures calls { self.new.calls ≡ called self.old.calls }
         ensures only { IsErr result ↔ IsTrue (fails_next self.old.calls) }
         ensures past { (self.new.start ≡ self.old.start) × (self.new.past ≡ self.old.past) × (self.new.untold ≡ self.old.untold) }
@@ -269,7 +254,6 @@ impl Disk for MemDisk {
     }
 
     fn read_at(&mut self, name: &FileName, at: u64, room: &mut [u8]) -> Result<usize, Failed>
-        ensures attachment { self.new.attachment ≡ self.old.attachment }
         ensures calls { self.new.calls ≡ called self.old.calls }
         ensures only { IsErr result ↔ IsTrue (fails_next self.old.calls) }
         ensures past { (self.new.start ≡ self.old.start) × (self.new.past ≡ self.old.past) × (self.new.untold ≡ self.old.untold) }

@@ -4,47 +4,47 @@ ghost use Rattle.weed_base.specs.Sent.{bytes_of};
 
 use crate::disk_host::DiskHost;
 use crate::mem::disk::MemDisk;
-use crate::mem::outlet::MemOutlet;
+use crate::mem::sender::MemSender;
 use crate::mem::sent::SentPiece;
 use std::alloc::Global;
 
 /// A host in memory.
-pub type MemHost = DiskHost<MemDisk, MemOutlet>;
+pub type MemHost = DiskHost<MemDisk, MemSender>;
 
-impl DiskHost<MemDisk, MemOutlet> {
+impl DiskHost<MemDisk, MemSender> {
     /// A host over this disk that sends each piece whole. The sends with these numbers fail.
     pub fn new(alloc: Global, disk: MemDisk, failing: Vec<u64>) -> MemHost
-        ensures { result ≡ record { disk = disk; outlet = record { pieces = []; most = usize.MAX; sends = uncalled failing.items } } }
+        ensures { result ≡ record { disk = disk; sender = record { pieces = []; most = usize.MAX; sends = uncalled failing.items } } }
     {
-        DiskHost::of(disk, MemOutlet::new(alloc, failing))
+        DiskHost::of(disk, MemSender::new(alloc, failing))
     }
 
     /// The same host, which sends so many bytes at a time at most.
     pub fn with_most(self, most: usize) -> MemHost
-        ensures { result ≡ record self { outlet = record self.outlet { most = most } } }
+        ensures { result ≡ record self { sender = record self.sender { most = most } } }
     {
-        let (disk, outlet) = self.into_parts();
-        DiskHost::of(disk, outlet.with_most(most))
+        let (disk, sender) = self.into_parts();
+        DiskHost::of(disk, sender.with_most(most))
     }
 
     /// The pieces sent, each with the disk's tick when it was handed over.
     pub fn pieces(&self) -> &[SentPiece]
-        ensures { result.now ≡ self.now.outlet.pieces }
+        ensures { result.now ≡ self.now.sender.pieces }
     {
-        self.outlet().pieces()
+        self.sender().pieces()
     }
 
     /// All the bytes sent.
     pub fn sent(&self) -> &[u8]
-        ensures { result.now ≡ bytes_of self.now.outlet.pieces }
+        ensures { result.now ≡ bytes_of self.now.sender.pieces }
     {
-        self.outlet().sent()
+        self.sender().sent()
     }
 
     /// How many sends failed.
     pub fn send_faults(&self) -> u64
-        ensures { result ≡ self.now.outlet.sends.faults }
+        ensures { result ≡ self.now.sender.sends.faults }
     {
-        self.outlet().faults()
+        self.sender().faults()
     }
 }

@@ -1,7 +1,8 @@
-ghost use Rattle.std.specs.Prelude.{◌≡◌, [], Some, length, min, IsTrue, IsErr, IfOk};
+ghost use Rattle.std.specs.Prelude.{◌≡◌, [], Some, length, min, IsTrue, IsErr, IfOk, ⊤};
 ghost use Rattle.weed_base.specs.Told.{HasWriteCause, Writes};
 ghost use Rattle.weed_base.specs.Calls.{uncalled, fails_next, IsNextCall};
 
+use crate::course::Course;
 use crate::mem::calls::Calls;
 use crate::sink::Sink;
 use crate::source::Failed;
@@ -60,10 +61,18 @@ impl MemSink {
     }
 }
 
+impl Course for MemSink {
+    ghost course = { λ _ _. ⊤ };
+}
+
 impl Sink for MemSink {
     ghost written = { λ sink. Some sink.written };
 
     ghost faults = { λ sink. sink.calls.faults };
+
+    ghost Beside = { Unit {0} };
+
+    ghost beside = { λ _. tt };
 
     fn write(&mut self, piece: &[u8]) -> Result<usize, Failed>
         ensures bytes { Writes (Some self.old.written) (Some self.new.written) result piece.now }

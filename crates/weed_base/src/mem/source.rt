@@ -2,6 +2,7 @@ ghost use Rattle.std.specs.Prelude.{◌≡◌, ◌<◌, ◌↔◌, ◌^◌, ◌-
 ghost use Rattle.weed_base.specs.Told.{Reads, HasCause};
 ghost use Rattle.weed_base.specs.Calls.{uncalled, fails_next, called};
 
+use crate::course::Course;
 use crate::mem::calls::Calls;
 use crate::mem::room::fill_front;
 use crate::source::{Failed, Source};
@@ -74,16 +75,20 @@ impl MemSource {
     }
 }
 
-impl<B> Source<B> for MemSource {
+impl Course for MemSource {
+    ghost course = { λ _ _. ⊤ };
+}
+
+impl Source for MemSource {
     ghost left = { λ source. Some source.left };
 
     ghost faults = { λ source. source.calls.faults };
 
-    ghost reads = { λ source. source.calls.made };
+    ghost Beside = { Unit {0} };
 
-    ghost one_read = { λ _ _ _. ⊤ };
+    ghost beside = { λ _. tt };
 
-    fn read(&mut self, _beside: &B, room: &mut [u8]) -> Result<usize, Failed>
+    fn read(&mut self, room: &mut [u8]) -> Result<usize, Failed>
         ensures bytes { Reads (Some self.old.left) (Some self.new.left) result room.new }
         ensures cause { HasCause self.old.calls.faults self.new.calls.faults result }
         ensures count { IfOk result (λ count. count ≡ min (min (length self.old.left) (length room.old)) self.old.most) }

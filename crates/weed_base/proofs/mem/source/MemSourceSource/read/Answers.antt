@@ -5,6 +5,6 @@ use Rattle.weed_base.proofs.ReadLemmas.{reads_front}
 use Rattle.weed_base.proofs.mem.source.MemSourceSource.read.Goals as goal
 
 pub returns-clause-bytes : goal.returns-clause-bytes
-returns-clause-bytes g c =
-    let source = c.self.inside in
-    rw (← c.self.view_is) (reads_front Failed source.bytes.items _ source.at source.most _ c.self.invariant.1 (grind (arith, common_steps)) (grind (arith, common_steps)))
+returns-clause-bytes g =
+    let source = g.self.inside in
+    rw (← g.self.view_is) (reads_front Failed source.bytes.items _ source.at source.most _ g.self.invariant.1 (grind (arith, common_steps)) (grind (arith, common_steps)))

@@ -1,0 +1,4 @@
+pub mod System
+pub mod Awaiting
+pub mod Folder
+pub mod RealForms

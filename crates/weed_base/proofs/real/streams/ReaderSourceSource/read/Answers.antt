@@ -1,8 +1,0 @@
-use Rattle.weed_base.specs.declared.source.Failed.{Failed}
-use Rattle.weed_base.proofs.StreamLemmas.{read_handed_on}
-use Rattle.weed_base.proofs.real.streams.ReaderSourceSource.read.Goals as goal
-
-pub returns-clause-bytes : goal.returns-clause-bytes
-returns-clause-bytes g c =
-    let told = c.read_once-answer.ensures in
-    read_handed_on {F = Failed} (record {}) _ _ c.read_once-answer.result _ _ (g.met.R.SteadyRead.steady c.read_once-answer.new.self c.args.self.now.reader) told.bound told.bytes c.note.ensures.value
