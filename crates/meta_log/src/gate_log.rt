@@ -1,8 +1,7 @@
 ghost use Rattle.std.specs.Prelude.{◌≡◌, ◌≤◌, ◌<◌, ◌+◌, ◌-◌, ◌^◌, ◌⊎◌, ◌++◌, ◌∷◌, [], List, length, ℕ, Err, IfOk, OnOk, IfErr, OnErr, IsErrOf, IfSome, None, Some};
 ghost use Rattle.weed_base.specs.Told.{HasCause, IsCauseOf};
 ghost use Rattle.weed_base.specs.Files.{BothTold, Files, content};
-ghost use Rattle.weed_base.specs.Images.{LeavesOnly, OnlyReads};
-ghost use Rattle.weed_base.specs.Beside.{StaysBeside};
+ghost use Rattle.weed_base.specs.DiskCalls.{Looks, Acts};
 ghost use Rattle.meta_log.specs.Making.{LeavesOthers};
 ghost use Rattle.meta_log.specs.LogText.{IsBlamable, segment_name, AppendsAt, ChangesOnly, Suits, MayKeep, IsDamage, IsLogText};
 ghost use Rattle.meta_log.specs.Segment.{items};
@@ -51,11 +50,11 @@ impl GateLog {
 
         // A crash at any moment leaves an image as it was, or the first segment in the making where none counted.
         ensures steps { (files : Files) → D.files disk.old ≡ Some files
-            → LeavesOnly D.tick D.image_since disk.old disk.new (ComesBy (IsMadeFrom stem) (D.images disk.old)) }
+            → Acts D.Disk disk.old disk.new (ComesBy (IsMadeFrom stem) (D.images disk.old)) }
 
         // A crash at any moment leaves a list that one before the call would have left; after `Ok` the list that was
         // read. Where each would have left a list, nothing is damaged.
-        ensures atomic { (files : Files) → D.files disk.old ≡ Some files → LeavesOnly D.tick D.image_since disk.old disk.new (HasListOf stem (D.images disk.old)) }
+        ensures atomic { (files : Files) → D.files disk.old ≡ Some files → Acts D.Disk disk.old disk.new (HasListOf stem (D.images disk.old)) }
         ensures settled { IfOk result (λ _. (files : Files) (payloads : List (List ℕ)) → D.files disk.old ≡ Some files → IsLogText stem files payloads
             → ImagesHold stem (D.images disk.new) payloads) }
         ensures own { (files : Files) → D.files disk.old ≡ Some files
@@ -63,9 +62,7 @@ impl GateLog {
 
         ensures others { BothTold (LeavesOthers stem) (D.files disk.old) (D.files disk.new) }
         ensures cause { IsCauseOf (D.faults disk.old) (D.faults disk.new) (IsErrOf result LogFault.DiskFault) }
-        ensures acts { D.acted disk.new ≤ D.acted disk.old + 6 }
-        ensures left_alone { (file : List ℕ) (at : ℕ) → result ≡ Err (LogFault.Damaged file at) → D.acted disk.new ≤ D.acted disk.old + 1 }
-        ensures beside { StaysBeside D.sent D.send_faults D.attachment disk.old disk.new }
+        ensures beside { D.beside disk.new ≡ D.beside disk.old }
     {
         let gate = open_stem(alloc, disk, stem)?;
         Ok(GateLog { stem, gate })
@@ -90,14 +87,14 @@ impl GateLog {
         // A crash at any moment leaves the list, or the list with the payload; after `Ok` the latter.
         ensures atomic { (files : Files) (payloads : List (List ℕ)) → D.files disk.old ≡ Some files → IsHeld files self.old payloads
             → ImagesHold (stem_of self.old) (D.images disk.old) payloads
-            → LeavesOnly D.tick D.image_since disk.old disk.new (IsEither (stem_of self.old) payloads text.now) }
+            → Acts D.Disk disk.old disk.new (IsEither (stem_of self.old) payloads text.now) }
         ensures settled { OnOk result ((files : Files) (payloads : List (List ℕ)) → D.files disk.old ≡ Some files → IsHeld files self.old payloads
             → ImagesHold (stem_of self.old) (D.images disk.new) (payloads ++ text.now ∷ [])) }
 
         ensures calls { D.tick disk.new ≤ D.tick disk.old + 4 }
         ensures others { BothTold (ChangesOnly (segment_name (stem_of self.old) 1)) (D.files disk.old) (D.files disk.new) }
         ensures cause { HasCause (D.faults disk.old) (D.faults disk.new) result }
-        ensures beside { StaysBeside D.sent D.send_faults D.attachment disk.old disk.new }
+        ensures beside { D.beside disk.new ≡ D.beside disk.old }
     {
         let segment = first_segment(self.stem);
         let behind = text.ready();
@@ -140,11 +137,9 @@ impl GateLog {
         ensures moves { IfOk result (λ read. read.1.at ≤ place.at + length (items read.0)) }
         ensures blamed { IfErr result (IfDamaged (λ file at. (file ≡ segment_name (stem_of self.now) 1) × (at < gate_of self.now))) }
 
-        ensures files { D.files disk.new ≡ D.files disk.old }
-        ensures still { OnlyReads D.tick D.images D.image_since disk.old disk.new }
-        ensures looks { D.acted disk.new ≡ D.acted disk.old }
+        ensures looks { Looks D.Disk disk.old disk.new }
         ensures cause { IsCauseOf (D.faults disk.old) (D.faults disk.new) (IsErrOf result LogFault.DiskFault) }
-        ensures beside { StaysBeside D.sent D.send_faults D.attachment disk.old disk.new }
+        ensures beside { D.beside disk.new ≡ D.beside disk.old }
     {
         let name = first_segment(self.stem);
         let mut reading = Reading::begin(alloc, disk, &name, place.at)?;

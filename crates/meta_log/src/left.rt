@@ -1,8 +1,7 @@
 ghost use Rattle.std.specs.Prelude.{◌≡◌, ◌≤◌, ◌<◌, ◌+◌, ◌^◌, ◌↔◌, length, List, ℕ, IfOk, IfErr, IsErrOf, IfSome, MatchOption, None};
 ghost use Rattle.weed_base.specs.Told.{IsCauseOf};
 ghost use Rattle.weed_base.specs.Files.{content};
-ghost use Rattle.weed_base.specs.Images.{OnlyReads};
-ghost use Rattle.weed_base.specs.Beside.{StaysBeside};
+ghost use Rattle.weed_base.specs.DiskCalls.{Looks};
 ghost use Rattle.meta_log.specs.Stretch.{IsOf};
 ghost use Rattle.meta_log.specs.Head.{HasItem};
 ghost use Rattle.meta_log.specs.Left.{among_items, IsLeft, MeetsNext, TakesNext, batch_from, FillsOrEnds, StandsAt, NoItemAt, StandFrom, IsHeadAt, BreaksAt};
@@ -53,11 +52,9 @@ pub fn left_head<D: Disk>(
     ensures there { IfOk result (HasItem reading.new.held) }
     ensures place { IfOk result (λ _. (reading.new.at ≡ reading.old.at) × (reading.new.size ≡ reading.old.size)) }
     ensures undamaged { IfErr result (IfDamaged (λ _ _. ⊥)) }
-    ensures files { D.files disk.new ≡ D.files disk.old }
-    ensures still { OnlyReads D.tick D.images D.image_since disk.old disk.new }
-    ensures looks { D.acted disk.new ≡ D.acted disk.old }
+    ensures looks { Looks D.Disk disk.old disk.new }
     ensures cause { IsCauseOf (D.faults disk.old) (D.faults disk.new) (IsErrOf result LogFault.DiskFault) }
-    ensures beside { StaysBeside D.sent D.send_faults D.attachment disk.old disk.new }
+    ensures beside { D.beside disk.new ≡ D.beside disk.old }
 {
     if reading.at() >= gate {
         return Ok(Head::Closed);
@@ -86,11 +83,9 @@ fn take_text<D: Disk>(
         (left : List (List ℕ)) → ¬ IsLeft (content files name.now) gate reading.old.at left))) }
     ensures breaks { IfErr result (IfDamaged (λ _ at. (at ≡ reading.old.at) × IfSome (D.files disk.old) (λ files. NoItemAt (content files name.now) at))) }
     ensures blamed { IfErr result (IfDamaged (λ file at. (file ≡ name.now) × (at ≡ reading.new.at) × (at < gate))) }
-    ensures files { D.files disk.new ≡ D.files disk.old }
-    ensures still { OnlyReads D.tick D.images D.image_since disk.old disk.new }
-    ensures looks { D.acted disk.new ≡ D.acted disk.old }
+    ensures looks { Looks D.Disk disk.old disk.new }
     ensures cause { IsCauseOf (D.faults disk.old) (D.faults disk.new) (IsErrOf result LogFault.DiskFault) }
-    ensures beside { StaysBeside D.sent D.send_faults D.attachment disk.old disk.new }
+    ensures beside { D.beside disk.new ≡ D.beside disk.old }
 {
     match left_head(disk, name, gate, reading)? {
         Head::Closed => Ok(None),
@@ -124,11 +119,9 @@ pub fn collect<D: Disk>(
         (left : List (List ℕ)) → ¬ IsLeft (content files name.now) gate reading.old.at left))) }
     ensures breaks { IfErr result (IfDamaged (λ _ at. IfSome (D.files disk.old) (λ files. BreaksAt (content files name.now) gate room most reading.old.at at))) }
     ensures blamed { IfErr result (IfDamaged (λ file at. (file ≡ name.now) × (at ≡ reading.new.at) × (at < gate))) }
-    ensures files { D.files disk.new ≡ D.files disk.old }
-    ensures still { OnlyReads D.tick D.images D.image_since disk.old disk.new }
-    ensures looks { D.acted disk.new ≡ D.acted disk.old }
+    ensures looks { Looks D.Disk disk.old disk.new }
     ensures cause { IsCauseOf (D.faults disk.old) (D.faults disk.new) (IsErrOf result LogFault.DiskFault) }
-    ensures beside { StaysBeside D.sent D.send_faults D.attachment disk.old disk.new }
+    ensures beside { D.beside disk.new ≡ D.beside disk.old }
 {
     let mut texts = Vec::new(alloc);
     let mut bytes = 0;

@@ -1,8 +1,8 @@
 ghost use Rattle.std.specs.Prelude.{◌≡◌, ◌≤◌, ◌+◌, OnOk, OnErr, IfSome};
 ghost use Rattle.weed_base.specs.Told.{HasCause};
 ghost use Rattle.weed_base.specs.Files.{BothTold, Files};
-ghost use Rattle.weed_base.specs.Images.{Only, LeavesOnly};
-ghost use Rattle.weed_base.specs.Beside.{StaysBeside};
+ghost use Rattle.weed_base.specs.Images.{Only};
+ghost use Rattle.weed_base.specs.DiskCalls.{Acts};
 ghost use Rattle.meta_log.specs.LogText.{segment_name, on_name, NoneFrom, ChangesOnly, MayKeep};
 ghost use Rattle.meta_log.specs.Making.{IsPrepared, IsFresh, IsFreshOrEmpty, LeavesOthers};
 
@@ -16,12 +16,11 @@ fn make_segment<D: Disk>(disk: &mut D, stem: Stem) -> Result<(), Failed>
     requires none { IfSome (D.files disk.old) (NoneFrom stem 1) }
     ensures made { OnOk result (IfSome (D.files disk.new) (IsPrepared stem)) }
     ensures failed { OnErr result (IfSome (D.files disk.new) (NoneFrom stem 1)) }
-    ensures atomic { ((image : Files) → D.images disk.old image → NoneFrom stem 1 image) → LeavesOnly D.tick D.image_since disk.old disk.new (NoneFrom stem 1) }
+    ensures atomic { ((image : Files) → D.images disk.old image → NoneFrom stem 1 image) → Acts D.Disk disk.old disk.new (NoneFrom stem 1) }
     ensures settled { OnOk result (Only (D.files disk.new) (D.images disk.new)) }
     ensures others { BothTold (ChangesOnly (segment_name stem 1)) (D.files disk.old) (D.files disk.new) }
     ensures cause { HasCause (D.faults disk.old) (D.faults disk.new) result }
-    ensures acts { D.acted disk.new ≤ D.acted disk.old + 3 }
-    ensures beside { StaysBeside D.sent D.send_faults D.attachment disk.old disk.new }
+    ensures beside { D.beside disk.new ≡ D.beside disk.old }
 {
     let segment = first_segment(stem);
     disk.make(&segment)?;
@@ -34,12 +33,11 @@ fn make_on<D: Disk>(disk: &mut D, stem: Stem) -> Result<(), Failed>
     requires prepared { IfSome (D.files disk.old) (IsPrepared stem) }
     ensures made { OnOk result (IfSome (D.files disk.new) (IsFresh stem)) }
     ensures failed { OnErr result (IfSome (D.files disk.new) (IsFreshOrEmpty stem)) }
-    ensures atomic { ((image : Files) → D.images disk.old image → IsPrepared stem image) → LeavesOnly D.tick D.image_since disk.old disk.new (IsFreshOrEmpty stem) }
+    ensures atomic { ((image : Files) → D.images disk.old image → IsPrepared stem image) → Acts D.Disk disk.old disk.new (IsFreshOrEmpty stem) }
     ensures settled { OnOk result (Only (D.files disk.new) (D.images disk.new)) }
     ensures others { BothTold (ChangesOnly (on_name stem 1)) (D.files disk.old) (D.files disk.new) }
     ensures cause { HasCause (D.faults disk.old) (D.faults disk.new) result }
-    ensures acts { D.acted disk.new ≤ D.acted disk.old + 2 }
-    ensures beside { StaysBeside D.sent D.send_faults D.attachment disk.old disk.new }
+    ensures beside { D.beside disk.new ≡ D.beside disk.old }
 {
     disk.make(&first_on(stem))?;
     disk.sync()
@@ -51,12 +49,11 @@ pub fn make_first<D: Disk>(disk: &mut D, stem: Stem) -> Result<(), Failed>
     requires none { IfSome (D.files disk.old) (NoneFrom stem 1) }
     ensures made { OnOk result (IfSome (D.files disk.new) (IsFresh stem)) }
     ensures failed { OnErr result (IfSome (D.files disk.new) (IsFreshOrEmpty stem)) }
-    ensures atomic { ((image : Files) → D.images disk.old image → NoneFrom stem 1 image) → LeavesOnly D.tick D.image_since disk.old disk.new (IsFreshOrEmpty stem) }
+    ensures atomic { ((image : Files) → D.images disk.old image → NoneFrom stem 1 image) → Acts D.Disk disk.old disk.new (IsFreshOrEmpty stem) }
     ensures settled { OnOk result (Only (D.files disk.new) (D.images disk.new)) }
     ensures others { BothTold (LeavesOthers stem) (D.files disk.old) (D.files disk.new) }
     ensures cause { HasCause (D.faults disk.old) (D.faults disk.new) result }
-    ensures acts { D.acted disk.new ≤ D.acted disk.old + 5 }
-    ensures beside { StaysBeside D.sent D.send_faults D.attachment disk.old disk.new }
+    ensures beside { D.beside disk.new ≡ D.beside disk.old }
 {
     make_segment(disk, stem)?;
     make_on(disk, stem)

@@ -1,8 +1,7 @@
 ghost use Rattle.std.specs.Prelude.{◌≡◌, ◌<◌, ◌≤◌, ◌+◌, ◌⊎◌, ◌++◌, ◌∷◌, ◌-◌, ◌^◌, [], List, length, ℕ, Bool, false, None, Some, Err, IfOk, OnOk, IfErr, OnErr, IsErrOf, IfSome};
 ghost use Rattle.weed_base.specs.Told.{HasCause, IsCauseOf};
 ghost use Rattle.weed_base.specs.Files.{BothTold, Files, content};
-ghost use Rattle.weed_base.specs.Images.{LeavesOnly, OnlyReads};
-ghost use Rattle.weed_base.specs.Beside.{StaysBeside};
+ghost use Rattle.weed_base.specs.DiskCalls.{Looks, Acts};
 ghost use Rattle.name_core.specs.declared.change.Record.{Record};
 ghost use Rattle.name_core.specs.Log.{end_of_time};
 ghost use Rattle.meta_log.specs.Making.{LeavesOthers};
@@ -64,20 +63,18 @@ impl MetaLog {
 
         // A crash at any moment leaves an image as it was, or the first segment in the making where none counted.
         ensures steps { (files : Files) → D.files disk.old ≡ Some files
-            → LeavesOnly D.tick D.image_since disk.old disk.new (ComesBy (IsMadeFrom Log) (D.images disk.old)) }
+            → Acts D.Disk disk.old disk.new (ComesBy (IsMadeFrom Log) (D.images disk.old)) }
 
         // A crash at any moment leaves the records that one before the call would have left; after `Ok` those that were
         // read. A disk of one's own isn't damaged.
-        ensures atomic { (files : Files) → D.files disk.old ≡ Some files → LeavesOnly D.tick D.image_since disk.old disk.new (HasLogOf (D.images disk.old)) }
+        ensures atomic { (files : Files) → D.files disk.old ≡ Some files → Acts D.Disk disk.old disk.new (HasLogOf (D.images disk.old)) }
         ensures settled { IfOk result (λ _. (files : Files) (records : List Record) → D.files disk.old ≡ Some files → IsRecordLog files records
             → ImagesKeep (D.images disk.new) records) }
         ensures own { (files : Files) → D.files disk.old ≡ Some files → IsOwn (D.images disk.old) → IfErr result (IfDamaged (λ _ _. ⊥)) }
 
         ensures others { BothTold (LeavesOthers Log) (D.files disk.old) (D.files disk.new) }
         ensures cause { IsCauseOf (D.faults disk.old) (D.faults disk.new) (IsErrOf result LogFault.DiskFault) }
-        ensures acts { D.acted disk.new ≤ D.acted disk.old + 6 }
-        ensures left_alone { (file : List ℕ) (at : ℕ) → result ≡ Err (LogFault.Damaged file at) → D.acted disk.new ≤ D.acted disk.old + 1 }
-        ensures beside { StaysBeside D.sent D.send_faults D.attachment disk.old disk.new }
+        ensures beside { D.beside disk.new ≡ D.beside disk.old }
     {
         let mut records = RisingRecords {
             front: Front { count: 0, time: 0 },
@@ -124,14 +121,14 @@ impl MetaLog {
         // A crash at any moment leaves the records, or the records with this one; after `Ok` the latter.
         ensures atomic { (files : Files) (records : List Record) (known : Record) → D.files disk.old ≡ Some files → IsKept files self.old records
             → ReadsAs text.now known → known.time ≡ time → ImagesKeep (D.images disk.old) records
-            → LeavesOnly D.tick D.image_since disk.old disk.new (IsEitherLog records known) }
+            → Acts D.Disk disk.old disk.new (IsEitherLog records known) }
         ensures settled { OnOk result ((files : Files) (records : List Record) (known : Record) → D.files disk.old ≡ Some files → IsKept files self.old records
             → ReadsAs text.now known → known.time ≡ time → ImagesKeep (D.images disk.new) (records ++ known ∷ [])) }
 
         ensures calls { D.tick disk.new ≤ D.tick disk.old + 4 }
         ensures others { BothTold (ChangesOnly (segment_name Log 1)) (D.files disk.old) (D.files disk.new) }
         ensures cause { HasCause (D.faults disk.old) (D.faults disk.new) result }
-        ensures beside { StaysBeside D.sent D.send_faults D.attachment disk.old disk.new }
+        ensures beside { D.beside disk.new ≡ D.beside disk.old }
     {
         self.log.append(disk, text)?;
         self.front = Front {
@@ -161,11 +158,9 @@ impl MetaLog {
         ensures breaks { IfErr result (IfDamaged (λ _ at. IfSome (D.files disk.old) (λ files.
             BreaksAfter (content files (segment_name Log 1)) (gate_of self.now.log) after room at))) }
 
-        ensures files { D.files disk.new ≡ D.files disk.old }
-        ensures still { OnlyReads D.tick D.images D.image_since disk.old disk.new }
-        ensures looks { D.acted disk.new ≡ D.acted disk.old }
+        ensures looks { Looks D.Disk disk.old disk.new }
         ensures cause { IsCauseOf (D.faults disk.old) (D.faults disk.new) (IsErrOf result LogFault.DiskFault) }
-        ensures beside { StaysBeside D.sent D.send_faults D.attachment disk.old disk.new }
+        ensures beside { D.beside disk.new ≡ D.beside disk.old }
     {
         let name = first_segment(Stem::Log);
         let mut reading = Reading::begin(alloc, disk, &name, 0)?;
@@ -214,11 +209,9 @@ impl MetaLog {
         ensures moves { IfOk result (λ read. read.1.at ≤ place.at + length (items read.0)) }
         ensures blamed { IfErr result (IfDamaged (λ file at. (file ≡ segment_name Log 1) × (at < gate_of self.now.log))) }
 
-        ensures files { D.files disk.new ≡ D.files disk.old }
-        ensures still { OnlyReads D.tick D.images D.image_since disk.old disk.new }
-        ensures looks { D.acted disk.new ≡ D.acted disk.old }
+        ensures looks { Looks D.Disk disk.old disk.new }
         ensures cause { IsCauseOf (D.faults disk.old) (D.faults disk.new) (IsErrOf result LogFault.DiskFault) }
-        ensures beside { StaysBeside D.sent D.send_faults D.attachment disk.old disk.new }
+        ensures beside { D.beside disk.new ≡ D.beside disk.old }
     {
         self.log.read_from(alloc, disk, place, room)
     }

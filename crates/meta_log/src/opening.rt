@@ -1,8 +1,8 @@
 ghost use Rattle.std.specs.Prelude.{◌≡◌, ◌<◌, ◌≤◌, ◌+◌, ◌-◌, ◌^◌, [], List, ℕ, Err, IfOk, IfErr, IsErrOf, IfSome, Some};
 ghost use Rattle.weed_base.specs.Told.{IsCauseOf};
 ghost use Rattle.weed_base.specs.Files.{BothTold, Files};
-ghost use Rattle.weed_base.specs.Images.{Only, LeavesOnly};
-ghost use Rattle.weed_base.specs.Beside.{StaysBeside};
+ghost use Rattle.weed_base.specs.Images.{Only};
+ghost use Rattle.weed_base.specs.DiskCalls.{Acts};
 ghost use Rattle.meta_log.specs.LogText.{IsBlamable, HasText, HasDamage, IsAllowed, MayKeep};
 ghost use Rattle.meta_log.specs.Making.{LeavesOthers};
 ghost use Rattle.meta_log.specs.Opening.{IsOpen};
@@ -39,14 +39,12 @@ pub fn open_first<D: Disk, C: Check>(
     ensures kept { (payloads : List (List ℕ)) → IfSome (D.files disk.old) (λ files. HasText C.allowed stem files payloads)
         → IfSome (D.files disk.new) (λ files. HasText C.allowed stem files payloads) }
     ensures atomic { (files : Files) → D.files disk.old ≡ Some files
-        → LeavesOnly D.tick D.image_since disk.old disk.new (ComesBy (IsMadeFrom stem) (D.images disk.old)) }
+        → Acts D.Disk disk.old disk.new (ComesBy (IsMadeFrom stem) (D.images disk.old)) }
     ensures settled { IfOk result (λ _. Only (D.files disk.new) (D.images disk.new)) }
     ensures files { BothTold (IsMadeFrom stem) (D.files disk.old) (D.files disk.new) }
     ensures others { BothTold (LeavesOthers stem) (D.files disk.old) (D.files disk.new) }
     ensures cause { IsCauseOf (D.faults disk.old) (D.faults disk.new) (IsErrOf result LogFault.DiskFault) }
-    ensures acts { D.acted disk.new ≤ D.acted disk.old + 6 }
-    ensures left_alone { (file : List ℕ) (at : ℕ) → result ≡ Err (LogFault.Damaged file at) → D.acted disk.new ≤ D.acted disk.old + 1 }
-    ensures beside { StaysBeside D.sent D.send_faults D.attachment disk.old disk.new }
+    ensures beside { D.beside disk.new ≡ D.beside disk.old }
 {
     disk.sync()?;
     match find_standing(alloc, disk, stem)? {
@@ -77,14 +75,12 @@ pub fn open_stem<D: Disk>(alloc: Global, disk: &mut D, stem: Stem) -> Result<u64
     ensures kept { (payloads : List (List ℕ)) → IfSome (D.files disk.old) (λ files. HasText (IsAllowed stem) stem files payloads)
         → IfSome (D.files disk.new) (λ files. HasText (IsAllowed stem) stem files payloads) }
     ensures atomic { (files : Files) → D.files disk.old ≡ Some files
-        → LeavesOnly D.tick D.image_since disk.old disk.new (ComesBy (IsMadeFrom stem) (D.images disk.old)) }
+        → Acts D.Disk disk.old disk.new (ComesBy (IsMadeFrom stem) (D.images disk.old)) }
     ensures settled { IfOk result (λ _. Only (D.files disk.new) (D.images disk.new)) }
     ensures files { BothTold (IsMadeFrom stem) (D.files disk.old) (D.files disk.new) }
     ensures others { BothTold (LeavesOthers stem) (D.files disk.old) (D.files disk.new) }
     ensures cause { IsCauseOf (D.faults disk.old) (D.faults disk.new) (IsErrOf result LogFault.DiskFault) }
-    ensures acts { D.acted disk.new ≤ D.acted disk.old + 6 }
-    ensures left_alone { (file : List ℕ) (at : ℕ) → result ≡ Err (LogFault.Damaged file at) → D.acted disk.new ≤ D.acted disk.old + 1 }
-    ensures beside { StaysBeside D.sent D.send_faults D.attachment disk.old disk.new }
+    ensures beside { D.beside disk.new ≡ D.beside disk.old }
 {
     match stem {
         Stem::Log => open_first(alloc, disk, stem, &mut AnyPayload),

@@ -1,8 +1,7 @@
 ghost use Rattle.std.specs.Prelude.{◌≡◌, ◌+◌, ◌≤◌, ◌<◌, ◌^◌, [], List, length, drop, IfOk, OnOk, IfErr, IsErrOf, IfSome, min};
 ghost use Rattle.weed_base.specs.Told.{HasCause, IsCauseOf};
 ghost use Rattle.weed_base.specs.Files.{content};
-ghost use Rattle.weed_base.specs.Images.{OnlyReads};
-ghost use Rattle.weed_base.specs.Beside.{StaysBeside};
+ghost use Rattle.weed_base.specs.DiskCalls.{Looks};
 ghost use Rattle.meta_log.specs.Stretch.{Stretch, IsOf, IsFilled, GrowsBy};
 ghost use Rattle.meta_log.specs.Faults.{IfDamaged};
 
@@ -56,11 +55,9 @@ fn extend_from<D: Disk>(
     ensures grows { OnOk result (GrowsBy (D.files disk.old) name.now at room bytes.old.items bytes.new.items) }
     ensures bound { length bytes.new.items ≤ length bytes.old.items + room }
     ensures undamaged { IfErr result (IfDamaged (λ _ _. ⊥)) }
-    ensures files { D.files disk.new ≡ D.files disk.old }
-    ensures still { OnlyReads D.tick D.images D.image_since disk.old disk.new }
-    ensures looks { D.acted disk.new ≡ D.acted disk.old }
+    ensures looks { Looks D.Disk disk.old disk.new }
     ensures cause { IsCauseOf (D.faults disk.old) (D.faults disk.new) (IsErrOf result LogFault.DiskFault) }
-    ensures beside { StaysBeside D.sent D.send_faults D.attachment disk.old disk.new }
+    ensures beside { D.beside disk.new ≡ D.beside disk.old }
 {
     let end = bytes.len();
     bytes.resize(end + room, 0)?;
@@ -93,11 +90,9 @@ impl Reading {
         ensures of { IfOk result (λ reading. IfSome (D.files disk.old) (λ files.
             IsOf (content files name.now) reading × (reading.at ≡ min at (length (content files name.now))))) }
         ensures ahead { IfOk result (λ reading. reading.at ≤ at) }
-        ensures files { D.files disk.new ≡ D.files disk.old }
-        ensures still { OnlyReads D.tick D.images D.image_since disk.old disk.new }
-        ensures looks { D.acted disk.new ≡ D.acted disk.old }
+        ensures looks { Looks D.Disk disk.old disk.new }
         ensures cause { HasCause (D.faults disk.old) (D.faults disk.new) result }
-        ensures beside { StaysBeside D.sent D.send_faults D.attachment disk.old disk.new }
+        ensures beside { D.beside disk.new ≡ D.beside disk.old }
     {
         let size = disk.size(name)?.unwrap_or(0);
         Ok(Reading::new(alloc, at.min(size), size))
@@ -141,11 +136,9 @@ impl Reading {
         ensures filled { OnOk result (IfSome (D.files disk.old) (λ files. IsOf (content files name.now) self.new × IsFilled wanted (content files name.now) self.new)) }
         ensures place { OnOk result ((self.new.at ≡ self.old.at) × (self.new.size ≡ self.old.size)) }
         ensures undamaged { IfErr result (IfDamaged (λ _ _. ⊥)) }
-        ensures files { D.files disk.new ≡ D.files disk.old }
-        ensures still { OnlyReads D.tick D.images D.image_since disk.old disk.new }
-        ensures looks { D.acted disk.new ≡ D.acted disk.old }
+        ensures looks { Looks D.Disk disk.old disk.new }
         ensures cause { IsCauseOf (D.faults disk.old) (D.faults disk.new) (IsErrOf result LogFault.DiskFault) }
-        ensures beside { StaysBeside D.sent D.send_faults D.attachment disk.old disk.new }
+        ensures beside { D.beside disk.new ≡ D.beside disk.old }
     {
         let left = (self.size - self.at) as usize;
         let held = self.bytes.len() - self.start;

@@ -2,8 +2,7 @@ ghost use Rattle.std.specs.Prelude.{◌≡◌, ◌<◌, ◌≤◌, false, IfOk, 
 ghost use Rattle.std.specs.Bool.{OnTrue};
 ghost use Rattle.weed_base.specs.Told.{IsCauseOf};
 ghost use Rattle.weed_base.specs.Files.{content};
-ghost use Rattle.weed_base.specs.Images.{OnlyReads};
-ghost use Rattle.weed_base.specs.Beside.{StaysBeside};
+ghost use Rattle.weed_base.specs.DiskCalls.{Looks};
 ghost use Rattle.meta_log.specs.Stretch.{IsOf};
 ghost use Rattle.meta_log.specs.Skip.{SkipsOne, SkipsTo, NoneAhead, PassesEarly, EndsOrHoldsLate, PassesTo, StopsAt, NoRecordAt};
 ghost use Rattle.meta_log.specs.Faults.{IfDamaged};
@@ -63,11 +62,9 @@ fn skip_one<D: Disk>(
     ensures damaged { IfErr result (IfDamaged (λ _ _. IfSome (D.files disk.old) (λ files. NoneAhead (content files name.now) gate after reading.old.at))) }
     ensures breaks { IfErr result (IfDamaged (λ _ at. (at ≡ reading.old.at) × IfSome (D.files disk.old) (λ files. NoRecordAt (content files name.now) at))) }
     ensures blamed { IfErr result (IfDamaged (λ file at. (file ≡ name.now) × (at ≡ reading.new.at) × (at < gate))) }
-    ensures files { D.files disk.new ≡ D.files disk.old }
-    ensures still { OnlyReads D.tick D.images D.image_since disk.old disk.new }
-    ensures looks { D.acted disk.new ≡ D.acted disk.old }
+    ensures looks { Looks D.Disk disk.old disk.new }
     ensures cause { IsCauseOf (D.faults disk.old) (D.faults disk.new) (IsErrOf result LogFault.DiskFault) }
-    ensures beside { StaysBeside D.sent D.send_faults D.attachment disk.old disk.new }
+    ensures beside { D.beside disk.new ≡ D.beside disk.old }
 {
     let size = match left_head(disk, name, gate, reading)? {
         Head::Closed => return Ok(false),
@@ -103,11 +100,9 @@ pub fn skip_past<D: Disk>(
     ensures breaks { IfErr result (IfDamaged (λ _ at. IfSome (D.files disk.old) (λ files.
         PassesTo (content files name.now) gate after reading.old.at at × NoRecordAt (content files name.now) at))) }
     ensures blamed { IfErr result (IfDamaged (λ file at. (file ≡ name.now) × (at ≡ reading.new.at) × (at < gate))) }
-    ensures files { D.files disk.new ≡ D.files disk.old }
-    ensures still { OnlyReads D.tick D.images D.image_since disk.old disk.new }
-    ensures looks { D.acted disk.new ≡ D.acted disk.old }
+    ensures looks { Looks D.Disk disk.old disk.new }
     ensures cause { IsCauseOf (D.faults disk.old) (D.faults disk.new) (IsErrOf result LogFault.DiskFault) }
-    ensures beside { StaysBeside D.sent D.send_faults D.attachment disk.old disk.new }
+    ensures beside { D.beside disk.new ≡ D.beside disk.old }
 {
     'skipping: while skip_one(alloc, disk, name, gate, reading, after)? {}
     Ok(())

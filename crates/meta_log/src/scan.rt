@@ -1,8 +1,7 @@
 ghost use Rattle.std.specs.Prelude.{◌≡◌, ◌<◌, ◌≤◌, ◌-◌, ◌^◌, [], drop, IfOk, IfErr, IsErrOf, IfSome};
 ghost use Rattle.weed_base.specs.Told.{IsCauseOf};
 ghost use Rattle.weed_base.specs.Files.{content};
-ghost use Rattle.weed_base.specs.Images.{OnlyReads};
-ghost use Rattle.weed_base.specs.Beside.{StaysBeside};
+ghost use Rattle.weed_base.specs.DiskCalls.{Looks};
 ghost use Rattle.meta_log.specs.Stretch.{IsOf};
 ghost use Rattle.meta_log.specs.Head.{IsNextHead, HasPayload};
 ghost use Rattle.meta_log.specs.Scan.{IsScanned, IsAtEnd, IsStep, GoesOn};
@@ -44,11 +43,9 @@ pub fn next_head<D: Disk>(
     ensures there { IfOk result (HasPayload reading.new.held) }
     ensures place { IfOk result (λ _. (reading.new.at ≡ reading.old.at) × (reading.new.size ≡ reading.old.size)) }
     ensures undamaged { IfErr result (IfDamaged (λ _ _. ⊥)) }
-    ensures files { D.files disk.new ≡ D.files disk.old }
-    ensures still { OnlyReads D.tick D.images D.image_since disk.old disk.new }
-    ensures looks { D.acted disk.new ≡ D.acted disk.old }
+    ensures looks { Looks D.Disk disk.old disk.new }
     ensures cause { IsCauseOf (D.faults disk.old) (D.faults disk.new) (IsErrOf result LogFault.DiskFault) }
-    ensures beside { StaysBeside D.sent D.send_faults D.attachment disk.old disk.new }
+    ensures beside { D.beside disk.new ≡ D.beside disk.old }
 {
     reading.fill(disk, name, AHEAD)?;
     let head = head_of(reading.held());
@@ -76,11 +73,9 @@ fn take_step<D: Disk, C: Check>(
     ensures few { IfOk result (λ _. C.count check.new ≤ reading.new.at) }
     ensures goes { IfOk result (λ met. (reading.new.size ≡ reading.old.size) × GoesOn reading.old reading.new met) }
     ensures undamaged { IfErr result (IfDamaged (λ _ _. ⊥)) }
-    ensures files { D.files disk.new ≡ D.files disk.old }
-    ensures still { OnlyReads D.tick D.images D.image_since disk.old disk.new }
-    ensures looks { D.acted disk.new ≡ D.acted disk.old }
+    ensures looks { Looks D.Disk disk.old disk.new }
     ensures cause { IsCauseOf (D.faults disk.old) (D.faults disk.new) (IsErrOf result LogFault.DiskFault) }
-    ensures beside { StaysBeside D.sent D.send_faults D.attachment disk.old disk.new }
+    ensures beside { D.beside disk.new ≡ D.beside disk.old }
 {
     match next_head(disk, name, reading)? {
         Head::Closed => Ok(Step::End),
@@ -110,11 +105,9 @@ pub fn scan<D: Disk, C: Check>(
     ensures few { IfOk result (λ gate. C.count check.new ≤ gate) }
     ensures damaged { IfErr result (IfDamaged (λ file at. (file ≡ segment_name stem 1)
         × IfSome (D.files disk.old) (λ files. IsBroken C.allowed (content files (segment_name stem 1)) at))) }
-    ensures files { D.files disk.new ≡ D.files disk.old }
-    ensures still { OnlyReads D.tick D.images D.image_since disk.old disk.new }
-    ensures looks { D.acted disk.new ≡ D.acted disk.old }
+    ensures looks { Looks D.Disk disk.old disk.new }
     ensures cause { IsCauseOf (D.faults disk.old) (D.faults disk.new) (IsErrOf result LogFault.DiskFault) }
-    ensures beside { StaysBeside D.sent D.send_faults D.attachment disk.old disk.new }
+    ensures beside { D.beside disk.new ≡ D.beside disk.old }
 {
     let name = first_segment(stem);
     let mut reading = Reading::begin(alloc, disk, &name, 0)?;

@@ -1,7 +1,6 @@
 ghost use Rattle.std.specs.Prelude.{◌≡◌, ◌≢◌, ◌↔◌, ◌++◌, ℕ, List, codes, Any, IsTrue, IfOk, IfErr, IsErrOf, IfSome, MatchBool, MatchOption};
 ghost use Rattle.weed_base.specs.Told.{HasCause, IsCauseOf};
-ghost use Rattle.weed_base.specs.Images.{OnlyReads};
-ghost use Rattle.weed_base.specs.Beside.{StaysBeside};
+ghost use Rattle.weed_base.specs.DiskCalls.{Looks};
 ghost use Rattle.std.specs.Char.{is_ascii_digit};
 ghost use Rattle.std.specs.List.{list_all};
 ghost use Rattle.std.specs.Str.{bytes_eq};
@@ -82,11 +81,9 @@ fn any_later_on(stem: Stem, names: &[FileName]) -> bool
 /// Whether a segment past the first counts.
 fn later_counts<D: Disk>(alloc: Global, disk: &mut D, stem: Stem) -> Result<bool, NamesFault>
     ensures found { IfOk result (λ some. IfSome (D.files disk.old) (λ files. MatchBool some (SomeFrom stem 2 files) (NoneFrom stem 2 files))) }
-    ensures files { D.files disk.new ≡ D.files disk.old }
-    ensures still { OnlyReads D.tick D.images D.image_since disk.old disk.new }
-    ensures looks { D.acted disk.new ≡ D.acted disk.old }
+    ensures looks { Looks D.Disk disk.old disk.new }
     ensures cause { IsCauseOf (D.faults disk.old) (D.faults disk.new) (IsErrOf result NamesFault.Failed) }
-    ensures beside { StaysBeside D.sent D.send_faults D.attachment disk.old disk.new }
+    ensures beside { D.beside disk.new ≡ D.beside disk.old }
 {
     let names = disk.names(alloc)?;
     Ok(any_later_on(stem, names.as_slice()))
@@ -95,11 +92,9 @@ fn later_counts<D: Disk>(alloc: Global, disk: &mut D, stem: Stem) -> Result<bool
 /// Whether the first segment counts.
 fn first_counts<D: Disk>(disk: &mut D, stem: Stem) -> Result<bool, Failed>
     ensures found { IfOk result (λ some. IfSome (D.files disk.old) (λ files. IsTrue some ↔ Counts stem 1 files)) }
-    ensures files { D.files disk.new ≡ D.files disk.old }
-    ensures still { OnlyReads D.tick D.images D.image_since disk.old disk.new }
-    ensures looks { D.acted disk.new ≡ D.acted disk.old }
+    ensures looks { Looks D.Disk disk.old disk.new }
     ensures cause { HasCause (D.faults disk.old) (D.faults disk.new) result }
-    ensures beside { StaysBeside D.sent D.send_faults D.attachment disk.old disk.new }
+    ensures beside { D.beside disk.new ≡ D.beside disk.old }
 {
     let size = disk.size(&first_on(stem))?;
     Ok(size.is_some())
@@ -120,11 +115,9 @@ fn choose(first: bool, later: bool) -> Standing
 pub fn find_standing<D: Disk>(alloc: Global, disk: &mut D, stem: Stem) -> Result<Standing, LogFault>
     ensures found { IfOk result (λ found. IfSome (D.files disk.old) (λ files. IsStanding stem files found)) }
     ensures undamaged { IfErr result (IfDamaged (λ _ _. ⊥)) }
-    ensures files { D.files disk.new ≡ D.files disk.old }
-    ensures still { OnlyReads D.tick D.images D.image_since disk.old disk.new }
-    ensures looks { D.acted disk.new ≡ D.acted disk.old }
+    ensures looks { Looks D.Disk disk.old disk.new }
     ensures cause { IsCauseOf (D.faults disk.old) (D.faults disk.new) (IsErrOf result LogFault.DiskFault) }
-    ensures beside { StaysBeside D.sent D.send_faults D.attachment disk.old disk.new }
+    ensures beside { D.beside disk.new ≡ D.beside disk.old }
 {
     let later = later_counts(alloc, disk, stem)?;
     let first = first_counts(disk, stem)?;

@@ -2,8 +2,8 @@ ghost use Rattle.std.specs.Prelude.{◌≡◌, ◌≤◌, ◌<◌, ◌+◌, ◌^
 ghost use Rattle.std.specs.Option.{option_map};
 ghost use Rattle.weed_base.specs.Told.{HasCause};
 ghost use Rattle.weed_base.specs.Files.{IsWithin, written, MayWrite, BothTold};
-ghost use Rattle.weed_base.specs.Images.{Only, Tears, LeavesOnly};
-ghost use Rattle.weed_base.specs.Beside.{StaysBeside};
+ghost use Rattle.weed_base.specs.Images.{Only, Tears};
+ghost use Rattle.weed_base.specs.DiskCalls.{Acts};
 ghost use Rattle.meta_log.specs.Images.{ComesBy};
 ghost use Rattle.meta_log.specs.LogText.{ChangesOnly};
 
@@ -20,14 +20,13 @@ pub fn write_settled<D: Disk>(
     ensures files { MatchResult result
         (λ _. D.files disk.new ≡ option_map (written name.now at piece.now) (D.files disk.old))
         (λ _. BothTold (MayWrite name.now at piece.now) (D.files disk.old) (D.files disk.new)) }
-    ensures atomic { LeavesOnly D.tick D.image_since disk.old disk.new (ComesBy (Tears name.now at (length piece.now)) (D.images disk.old)) }
+    ensures atomic { Acts D.Disk disk.old disk.new (ComesBy (Tears name.now at (length piece.now)) (D.images disk.old)) }
     ensures settled { OnOk result (Only (D.files disk.new) (D.images disk.new)) }
     ensures calls { D.tick disk.new ≤ D.tick disk.old + 2 }
     ensures others { BothTold (ChangesOnly name.now) (D.files disk.old) (D.files disk.new) }
     ensures bound { OnOk result (at + length piece.now < 2 ^ 63) }
     ensures cause { HasCause (D.faults disk.old) (D.faults disk.new) result }
-    ensures acts { D.acted disk.new ≤ D.acted disk.old + 2 }
-    ensures beside { StaysBeside D.sent D.send_faults D.attachment disk.old disk.new }
+    ensures beside { D.beside disk.new ≡ D.beside disk.old }
 {
     disk.write_at(name, at, piece)?;
     disk.sync()

@@ -32,7 +32,7 @@ returns-in_err-text-clause-breaks g c =
     let p = err_from_is_err_and c.from_residual.result c.from_residual.ensures.1 in
     damaged_on _ _ c.from_residual.result p.0 c.in_err-text.field-0.0 p.1 p.2
     (λ file at found. told_breaks (g.D.Disk.files c.args.disk.now) (g.D.Disk.files c.taking.disk) c.args.name.now c.args.gate c.args.room c.args.most c.args.reading.now.at c.taking.reading.at at c.taking.texts.items
-    c.taking.invariant.3 c.taking.invariant.2 (omega (arith, c.taking-test.true, c.len.ensures)) (omega (arith, c.if-bytes-most.true, c.taking.invariant.9)) found.1.2 c.taking.invariant.11 found.0)
+    c.taking.invariant.3 c.taking.invariant.2 (omega (arith, c.taking-test.true, c.len.ensures)) (omega (arith, c.if-bytes-most.true, c.taking.invariant.9)) found.1.2 c.taking.invariant.10 found.0)
     (damaged_both _ _ c.in_err-text.field-0.0 c.in_err-text.ensures.breaks c.in_err-text.ensures.blamed)
 
 pub returns-clause-whole : goal.returns-clause-whole
@@ -67,16 +67,15 @@ taking-preserved g c =
       omega (arith, ap length pushed, length_push texts text, c.taking-test.true, c.len.ensures),
       omega (arith, c.taking.invariant.1, place.0, ap length c.as_slice.ensures),
       omega (arith, c.taking.invariant.2, place.0, longer),
-      c.take_text.ensures.files ∙ c.taking.invariant.3,
+      c.take_text.ensures.looks.files ∙ c.taking.invariant.3,
       subst (λ o. IfSome o (λ files. IsOf (content files c.args.name.now) c.take_text.new.reading)) c.taking.invariant.3 c.in_ok-text.ensures.of,
       told_goes_on told (g.D.Disk.files c.taking.disk) c.args.name.now c.args.gate c.args.reading.now.at c.args.most c.args.room c.taking.reading.at c.take_text.new.reading.at c.taking.bytes _ texts c.push.new.self.items text c.in_ok-text.field-0
           c.taking.invariant.3 c.in-Some.is (ap (λ (l : List ℕ). c.taking.bytes + length l) c.as_slice.ensures) pushed (omega (arith, c.taking-test.true, c.len.ensures)) c.if-bytes-most.true c.taking.invariant.5 c.in_ok-text.ensures.takes,
       c.take_text.ensures.cause.quiet (ok_is_no_fault c.take_text.result _ _ c.in_ok-text.was) ∙ c.taking.invariant.6,
-      ((c.take_text.ensures.beside.0.0 ∙ c.taking.invariant.7.0.0, c.take_text.ensures.beside.0.1 ∙ c.taking.invariant.7.0.1), c.take_text.ensures.beside.1 ∙ c.taking.invariant.7.1),
-      reads_both g.D.Disk.tick g.D.Disk.images g.D.Disk.image_since c.args.disk.now c.taking.disk c.take_text.new.disk c.taking.invariant.8 c.take_text.ensures.still,
+      c.take_text.ensures.beside ∙ c.taking.invariant.7,
+      reads_both g.D.Disk.tick g.D.Disk.images g.D.Disk.image_since c.args.disk.now c.taking.disk c.take_text.new.disk c.taking.invariant.8 c.take_text.ensures.looks.still,
       ap (λ (n : ℕ). c.taking.bytes + n) (ap length c.as_slice.ensures) ∙ omega (arith, c.taking.invariant.9, sum_by_push length texts text, ap (λ (l : List (List ℕ)). sum_by length l) pushed),
-      c.take_text.ensures.looks ∙ c.taking.invariant.10,
       told_stand_more told (g.D.Disk.files c.taking.disk) c.args.name.now c.args.gate c.args.reading.now.at c.taking.reading.at texts c.push.new.self.items text c.in_ok-text.field-0
-          c.taking.invariant.3 c.in-Some.is pushed c.taking.invariant.2 c.taking.invariant.11 c.in_ok-text.ensures.stands,
+          c.taking.invariant.3 c.in-Some.is pushed c.taking.invariant.2 c.taking.invariant.10 c.in_ok-text.ensures.stands,
       subst (λ (l : List (List ℕ)). batch_from c.args.most c.args.room 0 l ≡ l) (sym pushed) (batch_push c.args.most c.args.room 0 texts text (omega (arith, c.taking-test.true, c.len.ensures)) (omega (arith, c.if-bytes-most.true, c.taking.invariant.9))),
     )

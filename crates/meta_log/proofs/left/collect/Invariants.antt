@@ -2,7 +2,6 @@ use Rattle.std.proofs.Common.{◌≡◌, ℕ, ◌+◌, ◌-◌, ◌≤◌, List,
 use Rattle.std.specs.Prelude.{IfSome, sum_by}
 use Rattle.weed_base.specs.Files.{content}
 use Rattle.weed_base.specs.Images.{OnlyReads}
-use Rattle.weed_base.specs.Beside.{StaysBeside}
 use Rattle.meta_log.specs.Segment.{items}
 use Rattle.meta_log.specs.Stretch.{IsOf}
 use Rattle.meta_log.specs.Left.{IsLeft, StandFrom, batch_from}
@@ -20,10 +19,9 @@ invariant-taking g l =
     × IfSome (g.D.Disk.files l.fn.disk) (λ files.
     (first : List (List ℕ)) → IsLeft (content files l.name) l.gate l.fn.reading.at first → IsCollected (content files l.name) l.gate l.reading.at l.most l.room l.bytes first l.texts.items)
     × (g.D.Disk.faults l.disk ≡ g.D.Disk.faults l.fn.disk)
-    × StaysBeside g.D.Disk.sent g.D.Disk.send_faults g.D.Disk.attachment l.fn.disk l.disk
+    × (g.D.Disk.beside l.disk ≡ g.D.Disk.beside l.fn.disk)
     × OnlyReads g.D.Disk.tick g.D.Disk.images g.D.Disk.image_since l.fn.disk l.disk
     × (l.bytes ≡ sum_by length l.texts.items)
-    × (g.D.Disk.acted l.disk ≡ g.D.Disk.acted l.fn.disk)
     × IfSome (g.D.Disk.files l.fn.disk) (λ files. StandFrom (content files l.name) l.gate l.fn.reading.at l.texts.items)
     × (batch_from l.most l.room 0 l.texts.items ≡ l.texts.items)
 

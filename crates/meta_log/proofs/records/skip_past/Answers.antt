@@ -31,7 +31,6 @@ skipping-init g c = record {
   faults = search rules;
   beside = search rules;
   still = search rules;
-  looks = search rules;
 }
 
 pub skipping-preserved : goal.skipping-preserved
@@ -47,7 +46,6 @@ skipping-preserved g c =
       faults = search rules;
       beside = search rules;
       still = search rules;
-      looks = search rules;
     }
 
 pub returns-clause-passes : goal.returns-clause-passes

@@ -2,7 +2,6 @@ use Rattle.std.proofs.Common.{◌≡◌, ℕ, ◌-◌, List}
 use Rattle.std.specs.Prelude.{IfSome}
 use Rattle.weed_base.specs.Files.{content}
 use Rattle.weed_base.specs.Images.{OnlyReads}
-use Rattle.weed_base.specs.Beside.{StaysBeside}
 use Rattle.meta_log.specs.Stretch.{IsOf}
 use Rattle.meta_log.specs.Skip.{IsAhead, AreLate, PassesTo}
 use Rattle.meta_log.proofs.records.skip_past.Given as goal
@@ -16,9 +15,8 @@ invariant-skipping g l = record {
       (past : List (List ℕ)) → IsAhead (content files l.name) l.gate l.after l.fn.reading.at past → AreLate l.after past → IsAhead (content files l.name) l.gate l.after l.reading.at past);
   passed : IfSome (g.D.Disk.files l.fn.disk) (λ files. PassesTo (content files l.name) l.gate l.after l.fn.reading.at l.reading.at);
   faults : g.D.Disk.faults l.disk ≡ g.D.Disk.faults l.fn.disk;
-  beside : StaysBeside g.D.Disk.sent g.D.Disk.send_faults g.D.Disk.attachment l.fn.disk l.disk;
+  beside : g.D.Disk.beside l.disk ≡ g.D.Disk.beside l.fn.disk;
   still : OnlyReads g.D.Disk.tick g.D.Disk.images g.D.Disk.image_since l.fn.disk l.disk;
-  looks : g.D.Disk.acted l.disk ≡ g.D.Disk.acted l.fn.disk;
 }
 
 abbrev pub decreases-skipping : goal.decreases-skipping

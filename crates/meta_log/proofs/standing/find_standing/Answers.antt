@@ -13,4 +13,4 @@ returns-clause-found g c =
     let P : Option Files → Type 0 = λ told. IfSome told (λ files. (IsTrue first → Counts c.args.stem 1 files) × (Counts c.args.stem 1 files → IsTrue first)) in
     let Q : Standing → Type 0 = λ found. IfSome (g.D.Disk.files c.args.disk.now) (λ files. IsStanding c.args.stem files found) in
     subst Q (sym c.choose.ensures)
-    (told_standing (g.D.Disk.files c.args.disk.now) c.args.stem first c.in_ok-later.later (subst P c.in_ok-later.ensures.files c.in_ok-first.ensures.found) c.in_ok-later.ensures.found)
+    (told_standing (g.D.Disk.files c.args.disk.now) c.args.stem first c.in_ok-later.later (subst P c.in_ok-later.ensures.looks.files c.in_ok-first.ensures.found) c.in_ok-later.ensures.found)

@@ -11,19 +11,19 @@ returns-in_err-texts-clause-damaged g c =
     let p = err_from_is_err_and c.from_residual-in_err-texts.result c.from_residual-in_err-texts.ensures.1 in
     damaged_on _ _ c.from_residual-in_err-texts.result p.0 c.in_err-texts.field-0.0 p.1 p.2
     (λ file at refuted holds. told_undamaged (g.D.Disk.files c.args.disk.now) (g.D.Disk.files c.begin.new.disk) c.first_segment-name.result c.args.self.now c.first_segment-name.ensures c.args.place c.in_ok-reading.reading
-    c.begin.ensures.files holds c.in_ok-reading.ensures.of refuted)
+    c.begin.ensures.looks.files holds c.in_ok-reading.ensures.of refuted)
     c.in_err-texts.ensures.damaged
 
 pub returns-clause-next : goal.returns-clause-next
 returns-clause-next g c =
     told_next (g.D.Disk.files c.args.disk.now) (g.D.Disk.files c.begin.new.disk) c.first_segment-name.result c.args.self.now c.first_segment-name.ensures c.args.place c.in_ok-reading.reading c.args.room _ c.args.self.now.bounded
-    c.in_ok-texts.texts.items c.of.result c.at.result c.begin.ensures.files c.of.ensures c.in_ok-reading.ensures.of c.in_ok-texts.ensures.texts (c.at.ensures.at ∙ c.in_ok-texts.ensures.place)
+    c.in_ok-texts.texts.items c.of.result c.at.result c.begin.ensures.looks.files c.of.ensures c.in_ok-reading.ensures.of c.in_ok-texts.ensures.texts (c.at.ensures.at ∙ c.in_ok-texts.ensures.place)
 
 pub returns-clause-behind : goal.returns-clause-behind
 returns-clause-behind g c holds =
-    told_behind (g.D.Disk.files c.args.disk.now) (g.D.Disk.files c.collect.new.disk) c.args.self.now c.args.place _ c.args.room c.of.result (c.collect.ensures.files ∙ c.begin.ensures.files) holds
+    told_behind (g.D.Disk.files c.args.disk.now) (g.D.Disk.files c.collect.new.disk) c.args.self.now c.args.place _ c.args.room c.of.result (c.collect.ensures.looks.files ∙ c.begin.ensures.looks.files) holds
     (told_next (g.D.Disk.files c.args.disk.now) (g.D.Disk.files c.begin.new.disk) c.first_segment-name.result c.args.self.now c.first_segment-name.ensures c.args.place c.in_ok-reading.reading c.args.room _ c.args.self.now.bounded
-    c.in_ok-texts.texts.items c.of.result c.at.result c.begin.ensures.files c.of.ensures c.in_ok-reading.ensures.of c.in_ok-texts.ensures.texts (c.at.ensures.at ∙ c.in_ok-texts.ensures.place))
+    c.in_ok-texts.texts.items c.of.result c.at.result c.begin.ensures.looks.files c.of.ensures c.in_ok-reading.ensures.of c.in_ok-texts.ensures.texts (c.at.ensures.at ∙ c.in_ok-texts.ensures.place))
 
 pub returns-clause-whole : goal.returns-clause-whole
 returns-clause-whole g c =
@@ -43,12 +43,12 @@ returns-clause-moves g c =
 pub returns-clause-reads : goal.returns-clause-reads
 returns-clause-reads g c =
     told_reads (g.D.Disk.files c.args.disk.now) (g.D.Disk.files c.begin.new.disk) c.first_segment-name.result _ c.args.self.now.gate c.args.place c.in_ok-reading.reading c.args.room _ c.in_ok-texts.texts.items c.of.result c.at.result
-    c.first_segment-name.ensures c.begin.ensures.files c.of.ensures c.in_ok-reading.ensures.of c.in_ok-texts.ensures.stand c.in_ok-texts.ensures.few (c.at.ensures.at ∙ c.in_ok-texts.ensures.place)
+    c.first_segment-name.ensures c.begin.ensures.looks.files c.of.ensures c.in_ok-reading.ensures.of c.in_ok-texts.ensures.stand c.in_ok-texts.ensures.few (c.at.ensures.at ∙ c.in_ok-texts.ensures.place)
 
 pub returns-in_err-texts-clause-breaks : goal.returns-in_err-texts-clause-breaks
 returns-in_err-texts-clause-breaks g c =
     let p = err_from_is_err_and c.from_residual-in_err-texts.result c.from_residual-in_err-texts.ensures.1 in
     damaged_on _ _ c.from_residual-in_err-texts.result p.0 c.in_err-texts.field-0.0 p.1 p.2
     (λ file at breaks. told_breaks_from (g.D.Disk.files c.args.disk.now) (g.D.Disk.files c.begin.new.disk) c.first_segment-name.result _ c.args.self.now.gate c.args.place c.in_ok-reading.reading c.args.room _ at
-    c.first_segment-name.ensures c.begin.ensures.files c.in_ok-reading.ensures.of breaks)
+    c.first_segment-name.ensures c.begin.ensures.looks.files c.in_ok-reading.ensures.of breaks)
     c.in_err-texts.ensures.breaks

@@ -26,7 +26,7 @@ returns-clause-behind g c =
     let files = g.D.Disk.files c.args.disk.now in
     let meta = c.args.self.now in
     IfOk-weaker c.read_from.result (λ read. IsNext files meta.log c.args.place c.args.room read.0 read.1) (λ read. KeepsPlace files meta c.args.place → KeepsPlace (g.D.Disk.files c.read_from.new.disk) meta read.1)
-    (λ read is keeps. told_behind_records files (g.D.Disk.files c.read_from.new.disk) meta c.args.place read.1 c.args.room read.0 c.read_from.ensures.files keeps is)
+    (λ read is keeps. told_behind_records files (g.D.Disk.files c.read_from.new.disk) meta c.args.place read.1 c.args.room read.0 c.read_from.ensures.looks.files keeps is)
     c.read_from.ensures.next
 
 pub returns-clause-blamed : goal.returns-clause-blamed
