@@ -11,4 +11,3 @@ pub mod ReadRecords
 pub mod RoundTrip
 pub mod PlanReadBack
 pub mod MadeLemmas
-pub mod LookUps

@@ -1,7 +1,6 @@
 -- Plans: the record that a command makes of a namespace, if any.
-use Rattle.std.specs.Prelude.{◌≡◌, ◌≢◌, ℕ, ◌+◌, ◌-◌, ◌≤◌, max, min, Bool, false, List, [], ◌∷◌, ◌++◌, length, All, map, filter, find, take, Option, None, Some, is_none, IfSome, Result, Ok, Err, ◌==◌, if◌then◌else◌}
+use Rattle.std.specs.Prelude.{◌≡◌, ◌≢◌, ℕ, ◌+◌, ◌≤◌, max, min, Bool, false, List, [], ◌∷◌, ◌++◌, length, All, map, filter, find, Option, None, Some, is_none, Result, Ok, Err, ◌==◌, if◌then◌else◌}
 use Rattle.std.specs.FinMap.{get}
-use Rattle.std.specs.Option.{option_map}
 use Rattle.name_core.specs.declared.entry.Entry.{Entry}
 use Rattle.name_core.specs.declared.change.Change.{Change}
 use Rattle.name_core.specs.declared.change.Change.TheVariants.{Put, Drop}
@@ -55,17 +54,6 @@ directories_at names time paths = unless_file (first_file names paths) (puts tim
 -- What a command changes where its record has that time, or its own refusal.
 abbrev pub changes_for : Namespace → ℕ → Command → Result (List Change) Refusal
 changes_for names time (MakeDir path) = directories_at names time (prefixes path)
-
--- The paths that a command may look up, in order.
-abbrev pub paths_of : Command → List (List (List ℕ))
-paths_of (MakeDir path) = prefixes path
-
--- First ones of these paths were looked up, each once and in order, and no other; where it is told, none behind the
--- first that is a file.
-abbrev pub LooksUpFirst : Option Namespace → List (List (List ℕ)) → Option (List (List (List ℕ))) → Option (List (List (List ℕ))) → Type 0
-LooksUpFirst told paths old new =
-    (count : ℕ) × (new ≡ option_map (λ before. before ++ take count paths) old)
-    × IfSome told (λ names. first_file names (take (count - 1) paths) ≡ None)
 
 -- The time of the next record: the clock's, as far as it is past the last one.
 abbrev pub record_time : ℕ → ℕ → ℕ

@@ -1,6 +1,5 @@
-ghost use Rattle.std.specs.Prelude.{◌≡◌, ◌∷◌, ◌++◌, [], List, ℕ, Option, IfOk, IfSome, IsNone, IsErrOf};
+ghost use Rattle.std.specs.Prelude.{◌≡◌, [], ℕ, Option, IfOk, IfSome, IsNone, IsErrOf};
 ghost use Rattle.std.specs.FinMap.{get};
-ghost use Rattle.std.specs.Option.{option_map};
 ghost use Rattle.weed_base.specs.Told.{IsCauseOf};
 ghost use Rattle.name_core.specs.Entry.{IsValid};
 ghost use Rattle.name_core.specs.Namespace.{Namespace};
@@ -44,8 +43,11 @@ pub trait Names {
     /// How many calls failed.
     ghost faults: { Self → ℕ };
 
-    /// The paths looked up so far, where told.
-    ghost looked: { Self → Option (List (List (List ℕ))) };
+    /// What stands beside the names.
+    ghost Beside: { Type 0 };
+
+    /// What stands beside them now. No call changes it.
+    ghost beside: { Self → Beside };
 
     /// The entry at a path; none for the root, which is always a directory and is never in the map.
     fn find(&mut self, alloc: Global, path: &Path) -> Result<Option<Entry>, KeeperFault>
@@ -53,6 +55,6 @@ pub trait Names {
         ensures root { path.now ≡ [] → IfOk result IsNone }
         ensures valid { IfOk result (λ found. IfSome found IsValid) }
         ensures map { map self.new ≡ map self.old }
-        ensures looked { looked self.new ≡ option_map (λ before. before ++ path.now ∷ []) (looked self.old) }
+        ensures beside { beside self.new ≡ beside self.old }
         ensures cause { IsCauseOf (faults self.old) (faults self.new) (IsErrOf result KeeperFault.Failed) };
 }

@@ -1,7 +1,7 @@
 ghost use Rattle.std.specs.Prelude.{◌≡◌, ◌≤◌, ◌<◌, ◌+◌, length, Ok, IfOk, IfSome, IsErrOf};
 ghost use Rattle.weed_base.specs.Told.{IsCauseOf};
 ghost use Rattle.name_core.specs.Log.{end_of_time};
-ghost use Rattle.name_core.specs.Plan.{changes_for, directories_at, paths_of, plan_of, prefixes, recorded, record_time, Changes, LooksUpFirst, MakesDirectories, Plans};
+ghost use Rattle.name_core.specs.Plan.{changes_for, directories_at, plan_of, prefixes, recorded, record_time, Changes, MakesDirectories, Plans};
 ghost use Rattle.name_core.specs.RecordReading.{record_of};
 ghost use Rattle.name_core.specs.RecordText.{CanBeWritten, record_text};
 
@@ -26,10 +26,9 @@ pub fn plan<V: Names>(
     ensures planned { IfSome (V.map view.old) (λ names. Plans (plan_of names command.now now last) result) }
     ensures map { V.map view.new ≡ V.map view.old }
     ensures cause { IsCauseOf (V.faults view.old) (V.faults view.new) (IsErrOf result PlanFault.KeeperFault) }
+    ensures beside { V.beside view.new ≡ V.beside view.old }
 
-    // These hold over every view, also one that isn't told. First prefixes of the path are looked up, each
-    // once and in order, up to the first file, and nothing else.
-    ensures looked { LooksUpFirst (V.map view.old) (paths_of command.now) (V.looked view.old) (V.looked view.new) }
+    // These hold over every view, also one that isn't told.
     ensures time { IfOk result (λ answer. IfSome answer (λ made. made.time ≡ record_time now last)) }
     ensures later { IfOk result (λ answer. IfSome answer (λ made. last < made.time)) }
     ensures writable { IfOk result (λ answer. IfSome answer CanBeWritten) }
@@ -58,7 +57,7 @@ fn changes_of<V: Names>(
 ) -> Result<RecordChanges, PlanFault>
     ensures changes { IfSome (V.map view.old) (λ names. Changes (changes_for names time command.now) result) }
     ensures map { V.map view.new ≡ V.map view.old }
-    ensures looked { LooksUpFirst (V.map view.old) (paths_of command.now) (V.looked view.old) (V.looked view.new) }
+    ensures beside { V.beside view.new ≡ V.beside view.old }
     ensures cause { IsCauseOf (V.faults view.old) (V.faults view.new) (IsErrOf result PlanFault.KeeperFault) }
     ensures directories { IfOk result (MakesDirectories time) }
     ensures no_end { IsErrOf result (PlanFault.Refused Refusal.ClockAtEnd) → ⊥ }
@@ -77,7 +76,7 @@ fn new_directories<V: Names>(
 ) -> Result<RecordChanges, PlanFault>
     ensures changes { IfSome (V.map view.old) (λ names. Changes (directories_at names time (prefixes path.now)) result) }
     ensures map { V.map view.new ≡ V.map view.old }
-    ensures looked { LooksUpFirst (V.map view.old) (prefixes path.now) (V.looked view.old) (V.looked view.new) }
+    ensures beside { V.beside view.new ≡ V.beside view.old }
     ensures cause { IsCauseOf (V.faults view.old) (V.faults view.new) (IsErrOf result PlanFault.KeeperFault) }
     ensures directories { IfOk result (MakesDirectories time) }
     ensures no_end { IsErrOf result (PlanFault.Refused Refusal.ClockAtEnd) → ⊥ }

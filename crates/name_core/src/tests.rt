@@ -31,7 +31,9 @@ impl Names for ListedNames<'_> {
 
     ghost faults = { λ names. names.faults };
 
-    ghost looked = { λ _. None };
+    ghost Beside = { Unit {0} };
+
+    ghost beside = { λ _. tt };
 
     fn find(&mut self, alloc: Global, path: &Path) -> Result<Option<Entry>, KeeperFault> {
         if self.is_failing {

@@ -4,7 +4,6 @@ use Rattle.name_core.specs.declared.command.Refusal.TheVariants.{IsFile}
 use Rattle.std.specs.FinMap.{get}
 use Rattle.name_core.specs.declared.entry.Entry.{Entry}
 use Rattle.name_core.specs.Plan.{directories_at, prefixes}
-use Rattle.name_core.proofs.LookUps.{next_looked, no_file_next, missing_is_no_file, directory_is_no_file, looked_so_far, looked_once_more}
 use Rattle.name_core.proofs.PlanLoop.{PlansFront, found_at, front_file, front_pushed, front_directory}
 use Rattle.name_core.proofs.planning.new_directories.Goals as goal
 use Rattle.name_core.proofs.planning.new_directories.Goals.{in-None+in_ok-push-in-None, in-Some+else-is_file}
@@ -26,13 +25,7 @@ loop-depth-preserved g c =
     record {
       map = c.find.ensures.map ∙ c.loop-depth.invariant.map;
       faults = c.in_ok-find.ensures.cause.quiet (λ failed. cc) ∙ c.loop-depth.invariant.faults;
-      looked = next_looked (g.V.Names.looked c.args.view.now) _ _ _ _ _ (omega arith) c.in_ok-prefix.ensures c.loop-depth.invariant.looked c.find.ensures.looked;
-      no_file =
-          no_file_next told c.args.path.now c.loop-depth.depth (omega arith) c.loop-depth.invariant.no_file
-          (elim c.match-branch-3.branch [
-            | in-None+in_ok-push-in-None w ↦ missing_is_no_file told path (found None w.in-None.is)
-            | in-Some+else-is_file w ↦ directory_is_no_file told path w.in-Some.entry (found (Some w.in-Some.entry) w.in-Some.is) (sym w.if-is_file.ensures)
-          ]);
+      beside = c.find.ensures.beside ∙ c.loop-depth.invariant.beside;
       front = elim c.match-branch-3.branch [
         | in-None+in_ok-push-in-None w ↦
             front_pushed told _ _ _ _ _ _ _ _ c.loop-depth.invariant.front c.depth-depth-end.ensures.valid (omega arith) (found None w.in-None.is)
@@ -43,21 +36,3 @@ loop-depth-preserved g c =
             (front_directory told _ _ _ _ w.in-Some.entry c.loop-depth.invariant.front (omega arith) (found (Some w.in-Some.entry) w.in-Some.is) (sym w.if-is_file.ensures))
       ];
     }
-
-pub returns-clause-looked : goal.returns-clause-looked
-returns-clause-looked g c = looked_so_far (g.V.Names.map c.args.view.now) _ _ _ _ c.loop-depth.invariant.looked c.loop-depth.invariant.no_file
-
-pub returns-in_err-prefix-clause-looked : goal.returns-in_err-prefix-clause-looked
-returns-in_err-prefix-clause-looked g c = looked_so_far (g.V.Names.map c.args.view.now) _ _ _ _ c.loop-depth.invariant.looked c.loop-depth.invariant.no_file
-
-pub returns-in_err-find-clause-looked : goal.returns-in_err-find-clause-looked
-returns-in_err-find-clause-looked g c =
-    looked_once_more (g.V.Names.map c.args.view.now) (g.V.Names.looked c.args.view.now) _ _ _ _ _ (omega arith) c.in_ok-prefix.ensures c.loop-depth.invariant.looked c.loop-depth.invariant.no_file c.find.ensures.looked
-
-pub returns-in_err-push-in-None-clause-looked : goal.returns-in_err-push-in-None-clause-looked
-returns-in_err-push-in-None-clause-looked g c =
-    looked_once_more (g.V.Names.map c.args.view.now) (g.V.Names.looked c.args.view.now) _ _ _ _ _ (omega arith) c.in_ok-prefix.ensures c.loop-depth.invariant.looked c.loop-depth.invariant.no_file c.find.ensures.looked
-
-pub returns-in-Some-clause-looked : goal.returns-in-Some-clause-looked
-returns-in-Some-clause-looked g c =
-    looked_once_more (g.V.Names.map c.args.view.now) (g.V.Names.looked c.args.view.now) _ _ _ _ _ (omega arith) c.in_ok-prefix.ensures c.loop-depth.invariant.looked c.loop-depth.invariant.no_file c.find.ensures.looked
