@@ -1,30 +1,12 @@
 //! A file store's command line.
 #![tactic(auto)]
 
-mod answer;
-mod exit;
-mod inbox;
-mod name_table;
-mod plain_filer;
-mod ready;
-mod replay;
-mod reply;
-mod request;
-mod run;
-mod session;
-mod words;
-mod world;
-mod write;
-
-use crate::exit::Exit;
-use crate::run::weed;
-use crate::world::World;
+use real_forms::{DirDisk, StandardError, StandardInput, StandardOutput, SystemClock};
 use std::env;
 use std::io::{self, Write};
 use std::process::ExitCode;
-use weed_base::{
-    DirDisk, DiskHost, StandardError, StandardInput, StandardOutput, SystemClock, Word,
-};
+use weed_base::{DiskHost, Word};
+use weed_command::{Exit, World, weed};
 
 /// What `weed --help` tells.
 const USAGE: &[u8] = b"\

@@ -1,7 +1,0 @@
-use Rattle.std.proofs.Common.{take}
-use Rattle.weed.specs.NameTable.{names_of}
-use Rattle.weed.specs.Replay.{Takes}
-use Rattle.weed.proofs.replay.take_texts.Given as goal
-
-abbrev pub invariant-loop-text : goal.invariant-loop-text
-invariant-loop-text l = Takes (take l.text-index l.texts) (names_of l.fn.names) (names_of l.names)

@@ -1,0 +1,12 @@
+use Rattle.std.proofs.Common.{◌≡◌, take}
+use Rattle.std.specs.List.{flat_map}
+use Rattle.weed_base.specs.Told.{Appends}
+use Rattle.weed_command.proofs.write.write_pieces.Given as goal
+
+abbrev pub invariant-loop-piece : goal.invariant-loop-piece
+invariant-loop-piece g l =
+    let sink = g.K.Sink in
+    record {
+      bytes : Appends (sink.written l.fn.to) (sink.written l.to) (flat_map (λ piece. piece.now) (take l.piece-index l.pieces));
+      faults : sink.faults l.to ≡ sink.faults l.fn.to;
+    }
