@@ -7,7 +7,7 @@ use Rattle.std.proofs.lemmas.List.Elements.{All-push}
 use Rattle.weed_base.specs.Files.{Files, content, spliced, written, IsWithin, MayWrite, BothTold}
 use Rattle.meta_log.specs.Segment.{IsShort, framed, items, IsSegment}
 use Rattle.meta_log.specs.LogText.{segment_name, Suits, IsAllowed, HasSegment, IsLogText, ChangesOnly}
-use Rattle.meta_log.specs.Held.{IsHeld, HoldsLog, HoldsEither}
+use Rattle.meta_log.specs.Held.{HoldsPayloads, TellsPayloads, TellsEither}
 use Rattle.meta_log.specs.declared.gate_log.GateLog.{GateLog}
 use Rattle.meta_log.proofs.Frames.{length-items-push}
 use Rattle.meta_log.proofs.Splices.{IsStaged, stage, stage_torn, open_gate, open_torn}
@@ -15,7 +15,7 @@ use Rattle.meta_log.proofs.Disks.{content-insert_same, get-insert_other, rewritt
 
 -- The files hold the log, and behind its gate stands a whole item.
 pub record IsReady (files : Files) (log : GateLog) (payloads : List (List ℕ)) (text : List ℕ) : Type 0 where
-  pub held : IsHeld files log payloads
+  pub held : HoldsPayloads files log payloads
   pub staged : IsStaged (content files (segment_name log.stem 1)) payloads text
 
 segment_of_staged : (bytes : List ℕ) (payloads : List (List ℕ)) (text : List ℕ) → IsStaged bytes payloads text → IsSegment bytes payloads
@@ -27,7 +27,7 @@ segment_of_staged bytes payloads text staged = record {
   short = staged.short;
 }
 
-pub length_held : (files : Files) (log : GateLog) (payloads : List (List ℕ)) → IsHeld files log payloads → log.gate + 1 ≤ length (content files (segment_name log.stem 1))
+pub length_held : (files : Files) (log : GateLog) (payloads : List (List ℕ)) → HoldsPayloads files log payloads → log.gate + 1 ≤ length (content files (segment_name log.stem 1))
 length_held files log payloads held =
     let segment = held.segment.segment in
     omega (arith, ap length segment.spelled, length-append (items payloads) (segment.gate ∷ segment.rest), held.gate)
@@ -39,7 +39,7 @@ module _ (log : GateLog) (payloads : List (List ℕ)) (text : List ℕ) where
   abbrev ready : List ℕ
   ready = framed text ++ 0 ∷ []
 
-  staged : (files : Files) → IsHeld files log payloads → IsReady (written name (log.gate + 1) ready files) log payloads text
+  staged : (files : Files) → HoldsPayloads files log payloads → IsReady (written name (log.gate + 1) ready files) log payloads text
   staged files held =
       let bytes = spliced (content files name) (log.gate + 1) ready in
       let is_staged = stage payloads log.gate held.gate (content files name) text held.segment.segment in
@@ -51,14 +51,14 @@ module _ (log : GateLog) (payloads : List (List ℕ)) (text : List ℕ) where
         staged = subst (λ (l : List ℕ). IsStaged l payloads text) (sym (content-insert_same files name bytes)) is_staged;
       }
 
-  pub stays : (old new : Files) (count : List ℕ) → IsHeld old log payloads → MayWrite name (log.gate + 1) count old new → IsLogText log.stem new payloads
+  pub stays : (old new : Files) (count : List ℕ) → HoldsPayloads old log payloads → MayWrite name (log.gate + 1) count old new → IsLogText log.stem new payloads
   stays old new piece held may =
       let segment = stage_torn payloads log.gate held.gate (content old name) may.0 (length piece) held.segment.segment may.1 in
       subst (λ (f : Files). IsLogText log.stem f payloads) (sym may.2)
       (inr (rewritten (IsAllowed log.stem) log.stem old may.0 payloads payloads held.segment segment held.segment.allowed))
 
   module _ (fits : IsShort text) (suits : Suits log.stem text) where
-    opened : (files : Files) (new : GateLog) → IsReady files log payloads text → new.stem ≡ log.stem → new.gate ≡ log.gate + length ready → IsHeld (written name log.gate (1 ∷ []) files) new (payloads ++ text ∷ [])
+    opened : (files : Files) (new : GateLog) → IsReady files log payloads text → new.stem ≡ log.stem → new.gate ≡ log.gate + length ready → HoldsPayloads (written name log.gate (1 ∷ []) files) new (payloads ++ text ∷ [])
     opened files new prepared stem_is gate_is =
         let bytes = spliced (content files name) log.gate (1 ∷ []) in
         let segment = open_gate payloads log.gate prepared.held.gate (content files name) text prepared.staged fits in
@@ -79,14 +79,14 @@ module _ (log : GateLog) (payloads : List (List ℕ)) (text : List ℕ) where
         ])
 
 -- The first write stages the item.
-pub stages : (told : Option Files) (log : GateLog) (payloads : List (List ℕ)) (text : List ℕ) → HoldsLog told log payloads
+pub stages : (told : Option Files) (log : GateLog) (payloads : List (List ℕ)) (text : List ℕ) → TellsPayloads told log payloads
     → IfSome (option_map (written (segment_name log.stem 1) (log.gate + 1) (framed text ++ 0 ∷ [])) told) (λ files. IsReady files log payloads text)
 stages None log payloads text held = tt
 stages (Some files) log payloads text held = staged log payloads text files held
 
 -- Where it fails, the list stays.
 pub stage_fails : (old new : Option Files) (log : GateLog) (payloads : List (List ℕ)) (text piece : List ℕ) → BothTold (MayWrite (segment_name log.stem 1) (log.gate + 1) piece) old new
-    → HoldsLog old log payloads → HoldsEither log.stem new payloads text
+    → TellsPayloads old log payloads → TellsEither log.stem new payloads text
 stage_fails None None log payloads text piece may held = tt
 stage_fails None (Some new) log payloads text piece may held = absurd may
 stage_fails (Some old) None log payloads text piece may held = tt
@@ -95,13 +95,13 @@ stage_fails (Some old) (Some new) log payloads text piece may held = inl (stays 
 -- The second write opens the gate.
 pub opens : (told : Option Files) (log new : GateLog) (payloads : List (List ℕ)) (text : List ℕ) → IsShort text → Suits log.stem text
     → IfSome told (λ files. IsReady files log payloads text) → new.stem ≡ log.stem → new.gate ≡ log.gate + length (framed text ++ 0 ∷ [])
-    → HoldsLog (option_map (written (segment_name log.stem 1) log.gate (1 ∷ [])) told) new (payloads ++ text ∷ [])
+    → TellsPayloads (option_map (written (segment_name log.stem 1) log.gate (1 ∷ [])) told) new (payloads ++ text ∷ [])
 opens None log new payloads text fits suits prepared stem_is gate_is = tt
 opens (Some files) log new payloads text fits suits prepared stem_is gate_is = opened log payloads text fits suits files new prepared stem_is gate_is
 
 -- Where it fails, the list stays or has the payload at its end.
 pub open_fails : (old new : Option Files) (log : GateLog) (payloads : List (List ℕ)) (text : List ℕ) → IsShort text → Suits log.stem text
-    → IfSome old (λ files. IsReady files log payloads text) → BothTold (MayWrite (segment_name log.stem 1) log.gate (1 ∷ [])) old new → HoldsEither log.stem new payloads text
+    → IfSome old (λ files. IsReady files log payloads text) → BothTold (MayWrite (segment_name log.stem 1) log.gate (1 ∷ [])) old new → TellsEither log.stem new payloads text
 open_fails None None log payloads text fits suits prepared may = tt
 open_fails None (Some new) log payloads text fits suits prepared may = absurd may
 open_fails (Some old) None log payloads text fits suits prepared may = tt
@@ -135,10 +135,10 @@ others_twice (Some old) (Some mid) (Some new) file first second = λ other diffe
 
 -- The same over the calls of an append: `file` and `piece` are what it passes, and `first` and `last` what it leaves.
 module _ (old first last : Option Files) (log : GateLog) (text file piece : List ℕ) (file_is : file ≡ segment_name log.stem 1) (piece_is : piece ≡ framed text ++ 0 ∷ []) where
-  pub first_failed : BothTold (MayWrite file (log.gate + 1) piece) old first → (payloads : List (List ℕ)) → HoldsLog old log payloads → HoldsEither log.stem first payloads text
+  pub first_failed : BothTold (MayWrite file (log.gate + 1) piece) old first → (payloads : List (List ℕ)) → TellsPayloads old log payloads → TellsEither log.stem first payloads text
   first_failed may payloads held = stage_fails old first log payloads text piece (subst (λ (n : List ℕ). BothTold (MayWrite n (log.gate + 1) piece) old first) file_is may) held
 
-  pub first_done : first ≡ option_map (written file (log.gate + 1) piece) old → (payloads : List (List ℕ)) → HoldsLog old log payloads → IfSome first (λ files. IsReady files log payloads text)
+  pub first_done : first ≡ option_map (written file (log.gate + 1) piece) old → (payloads : List (List ℕ)) → TellsPayloads old log payloads → IfSome first (λ files. IsReady files log payloads text)
   first_done is payloads held =
       let P : Option Files → Type 0 = λ o. IfSome o (λ files. IsReady files log payloads text) in
       let named = ap (λ (n : List ℕ). option_map (written n (log.gate + 1) piece) old) file_is in
@@ -146,14 +146,14 @@ module _ (old first last : Option Files) (log : GateLog) (text file piece : List
       subst P (sym (is ∙ named ∙ filled)) (stages old log payloads text held)
 
   module _ (fits : IsShort text) (suits : Suits log.stem text) (is : first ≡ option_map (written file (log.gate + 1) piece) old) where
-    pub last_failed : BothTold (MayWrite file log.gate (1 ∷ [])) first last → (payloads : List (List ℕ)) → HoldsLog old log payloads → HoldsEither log.stem last payloads text
+    pub last_failed : BothTold (MayWrite file log.gate (1 ∷ [])) first last → (payloads : List (List ℕ)) → TellsPayloads old log payloads → TellsEither log.stem last payloads text
     last_failed may payloads held =
         open_fails first last log payloads text fits suits (first_done is payloads held) (subst (λ (n : List ℕ). BothTold (MayWrite n log.gate (1 ∷ [])) first last) file_is may)
 
     pub last_done : (new : GateLog) → new.stem ≡ log.stem → new.gate ≡ log.gate + length piece → last ≡ option_map (written file log.gate (1 ∷ [])) first
-        → (payloads : List (List ℕ)) → HoldsLog old log payloads → HoldsLog last new (payloads ++ text ∷ [])
+        → (payloads : List (List ℕ)) → TellsPayloads old log payloads → TellsPayloads last new (payloads ++ text ∷ [])
     last_done new stem_is gate_is last_is payloads held =
-        let P : Option Files → Type 0 = λ o. HoldsLog o new (payloads ++ text ∷ []) in
+        let P : Option Files → Type 0 = λ o. TellsPayloads o new (payloads ++ text ∷ []) in
         let named = ap (λ (n : List ℕ). option_map (written n log.gate (1 ∷ [])) first) file_is in
         subst P (sym (last_is ∙ named))
         (opens first log new payloads text fits suits (first_done is payloads held) stem_is (gate_is ∙ ap (λ (p : List ℕ). log.gate + length p) piece_is))

@@ -7,12 +7,12 @@ use Rattle.weed_base.specs.Files.{Files, content}
 use Rattle.name_core.specs.declared.change.Record.{Record}
 use Rattle.name_core.specs.Log.{TimesRise}
 use Rattle.meta_log.specs.LogText.{segment_name}
-use Rattle.meta_log.specs.Held.{IsHeld}
+use Rattle.meta_log.specs.Held.{HoldsPayloads}
 use Rattle.meta_log.specs.Left.{IsLeft, batch_from}
 use Rattle.meta_log.specs.Records.{ReadAs}
 use Rattle.meta_log.specs.Skip.{IsAhead, AreLate, SkipsTo, NoneAhead}
 use Rattle.meta_log.specs.Stretch.{Stretch, IsOf}
-use Rattle.meta_log.specs.Kept.{HoldsRecords, IsPast}
+use Rattle.meta_log.specs.Kept.{TellsRecords, IsPast}
 use Rattle.meta_log.specs.declared.meta_log.MetaLog.{MetaLog}
 use Rattle.meta_log.proofs.Fetched.{left_at_start}
 
@@ -69,7 +69,7 @@ split after before (p ∷ payloads) (x ∷ records) read rise =
 
 -- A reading began at the start, skipped up to the time, and a batch was collected.
 module _ (name : List ℕ) (meta : MetaLog) (name_is : name ≡ segment_name meta.log.stem 1) (begun skipped : Stretch) (after room : ℕ) where
-  ahead_at_start : (files : Files) (before past : List (List ℕ)) (old : List Record) → begun.at ≡ min 0 (length (content files name)) → IsHeld files meta.log (before ++ past) → ReadAs before old → All (λ r. r.time ≤ after) old
+  ahead_at_start : (files : Files) (before past : List (List ℕ)) (old : List Record) → begun.at ≡ min 0 (length (content files name)) → HoldsPayloads files meta.log (before ++ past) → ReadAs before old → All (λ r. r.time ≤ after) old
       → IsAhead (content files name) meta.log.gate after begun.at past
   ahead_at_start files before past old at_is held read early =
       let zeroth : begun.at ≡ 0 = omega (arith, at_is) in
@@ -93,7 +93,7 @@ told_past (Some files) mid now name meta name_is begun skipped after room collec
     texts_is ∙ take past (skip past ahead (new, read_new, late))
 
 -- Of a disk that holds the records no damage is told.
-pub told_records_undamaged : (told mid now : Option Files) (name : List ℕ) (meta : MetaLog) → name ≡ segment_name meta.log.stem 1 → (begun skipped : Stretch) (after : ℕ) → mid ≡ told → now ≡ mid → (records : List Record) → HoldsRecords told meta records
+pub told_records_undamaged : (told mid now : Option Files) (name : List ℕ) (meta : MetaLog) → name ≡ segment_name meta.log.stem 1 → (begun skipped : Stretch) (after : ℕ) → mid ≡ told → now ≡ mid → (records : List Record) → TellsRecords told meta records
     → IfSome told (λ files. IsOf (content files name) begun × (begun.at ≡ min 0 (length (content files name))))
     → IfSome mid (λ files. SkipsTo (content files name) meta.log.gate after begun.at skipped.at)
     → IfSome now (λ files. (left : List (List ℕ)) → ¬ IsLeft (content files name) meta.log.gate skipped.at left) → told ≡ None
@@ -102,17 +102,17 @@ told_records_undamaged (Some files) mid now name meta name_is begun skipped afte
     let skip = subst (λ o. IfSome o (λ f. SkipsTo (content f name) meta.log.gate after begun.at skipped.at)) same_mid skips in
     let none = subst (λ o. IfSome o (λ f. (left : List (List ℕ)) → ¬ IsLeft (content f name) meta.log.gate skipped.at left)) (same_now ∙ same_mid) refuted in
     let parts = split after 0 holds.payloads records holds.read holds.times in
-    let held = subst (IsHeld files meta.log) parts.parted holds.held in
+    let held = subst (HoldsPayloads files meta.log) parts.parted holds.held in
     let ahead = ahead_at_start name meta name_is begun skipped after 0 files parts.before parts.past parts.old begins.1 held parts.read parts.early in
     absurd (none parts.past (skip parts.past ahead parts.late))
 
 -- Nor where they are skipped.
-pub told_skipped_undamaged : (told mid : Option Files) (name : List ℕ) (meta : MetaLog) → name ≡ segment_name meta.log.stem 1 → (begun : Stretch) (after : ℕ) → mid ≡ told → (records : List Record) → HoldsRecords told meta records
+pub told_skipped_undamaged : (told mid : Option Files) (name : List ℕ) (meta : MetaLog) → name ≡ segment_name meta.log.stem 1 → (begun : Stretch) (after : ℕ) → mid ≡ told → (records : List Record) → TellsRecords told meta records
     → IfSome told (λ files. IsOf (content files name) begun × (begun.at ≡ min 0 (length (content files name))))
     → IfSome mid (λ files. NoneAhead (content files name) meta.log.gate after begun.at) → told ≡ None
 told_skipped_undamaged None mid name meta name_is begun after same records holds begins refuted = refl
 told_skipped_undamaged (Some files) mid name meta name_is begun after same records holds begins refuted =
     let none = subst (λ o. IfSome o (λ f. NoneAhead (content f name) meta.log.gate after begun.at)) same refuted in
     let parts = split after 0 holds.payloads records holds.read holds.times in
-    let held = subst (IsHeld files meta.log) parts.parted holds.held in
+    let held = subst (HoldsPayloads files meta.log) parts.parted holds.held in
     absurd (none parts.past (ahead_at_start name meta name_is begun begun after 0 files parts.before parts.past parts.old begins.1 held parts.read parts.early) parts.late)

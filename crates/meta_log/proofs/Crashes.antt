@@ -7,8 +7,8 @@ use Rattle.weed_base.specs.Images.{Only, IsTornImage, TearsThere, Tears, LeavesO
 use Rattle.weed_base.proofs.ImageLemmas.{leaves_both, leaves_weaker}
 use Rattle.meta_log.specs.Segment.{IsShort, items}
 use Rattle.meta_log.specs.LogText.{segment_name, NoneFrom, Suits, IsLogText}
-use Rattle.meta_log.specs.Held.{IsHeld, HoldsLog, IsEither}
-use Rattle.meta_log.specs.Images.{ComesBy, ImagesHold}
+use Rattle.meta_log.specs.Held.{HoldsPayloads, TellsPayloads, IsEither}
+use Rattle.meta_log.specs.Images.{ComesBy, ImagesHoldPayloads}
 use Rattle.meta_log.specs.declared.stem.Stem.{Stem}
 use Rattle.meta_log.specs.declared.gate_log.GateLog.{GateLog}
 use Rattle.meta_log.proofs.Made.{none_still}
@@ -50,7 +50,7 @@ stage_keeps : (log : GateLog) (payloads : List (List ℕ)) (text piece : List �
     → Tears (segment_name log.stem 1) (log.gate + 1) (length piece) old new → IsLogText log.stem new payloads
 stage_keeps log payloads text piece old new gate_is (inl none) tears = inl (none_torn log.stem (log.gate + 1) (length piece) old new none.0 tears, none.1)
 stage_keeps log payloads text piece old new gate_is (inr segment) tears =
-    let held : IsHeld old log payloads = record { segment = segment; gate = gate_is } in
+    let held : HoldsPayloads old log payloads = record { segment = segment; gate = gate_is } in
     elim (tears_within (segment_name log.stem 1) (log.gate + 1) piece old new (length_held old log payloads held) tears) [
       | inl same ↦ subst (λ (f : Files). IsLogText log.stem f payloads) (sym same) (inr segment)
       | inr may ↦ stays log payloads text old new piece held may
@@ -75,14 +75,14 @@ module _ {D : Type 0} (tick : D → ℕ) (since : D → ℕ → Files → Type 0
   last_from middle = ComesBy (Tears file log.gate 1) (images middle)
 
   -- the first
-  pub first_leaves : (old middle : D) → ImagesHold log.stem (images old) payloads → LeavesOnly tick since old middle (first_from old) → LeavesOnly tick since old middle (IsEither log.stem payloads text)
+  pub first_leaves : (old middle : D) → ImagesHoldPayloads log.stem (images old) payloads → LeavesOnly tick since old middle (first_from old) → LeavesOnly tick since old middle (IsEither log.stem payloads text)
   first_leaves old middle hold leaves =
       leaves_weaker tick since old middle (first_from old) (IsEither log.stem payloads text)
       (λ image from. inl (stage_keeps log payloads text piece from.0 image gate_is (hold from.0 from.1) (subst (λ (n : List ℕ). Tears n (log.gate + 1) (length piece) from.0 image) file_is from.2)))
       leaves
 
   -- both, where the first is settled
-  pub both_leave : (told : Option Files) (old middle new : D) → IsShort text → Suits log.stem text → ImagesHold log.stem (images old) payloads → LeavesOnly tick since old middle (first_from old)
+  pub both_leave : (told : Option Files) (old middle new : D) → IsShort text → Suits log.stem text → ImagesHoldPayloads log.stem (images old) payloads → LeavesOnly tick since old middle (first_from old)
       → IfSome told (λ files. IsReady files log payloads text) → Only told (images middle) → LeavesOnly tick since middle new (last_from middle) → LeavesOnly tick since old new (IsEither log.stem payloads text)
   both_leave told old middle new fits suits hold first prepared only last =
       leaves_both tick since old middle new (IsEither log.stem payloads text) (first_leaves old middle hold first)
@@ -93,7 +93,7 @@ module _ {D : Type 0} (tick : D → ℕ) (since : D → ℕ → Files → Type 0
       last)
 
 -- What is settled holds what reads give.
-pub settled_holds : (told : Option Files) (images : Files → Type 0) (log new : GateLog) (payloads : List (List ℕ)) → new.stem ≡ log.stem → Only told images → HoldsLog told new payloads → ImagesHold log.stem images payloads
+pub settled_holds : (told : Option Files) (images : Files → Type 0) (log new : GateLog) (payloads : List (List ℕ)) → new.stem ≡ log.stem → Only told images → TellsPayloads told new payloads → ImagesHoldPayloads log.stem images payloads
 settled_holds told images log new payloads stem_is only holds = λ image left.
-    let held = subst (λ o. HoldsLog o new payloads) (only image left) holds in
+    let held = subst (λ o. TellsPayloads o new payloads) (only image left) holds in
     subst (λ (s : Stem). IsLogText s image payloads) stem_is (inr held.segment)

@@ -9,7 +9,7 @@ use Rattle.weed_base.specs.Files.{Files, content}
 use Rattle.meta_log.specs.Segment.{IsShort, item, items}
 use Rattle.meta_log.specs.LogText.{segment_name}
 use Rattle.meta_log.specs.Stretch.{Stretch, IsOf}
-use Rattle.meta_log.specs.Held.{IsHeld}
+use Rattle.meta_log.specs.Held.{HoldsPayloads}
 use Rattle.meta_log.specs.Left.{IsLeft, batch_from, FillsOrEnds}
 use Rattle.meta_log.specs.Places.{place_behind, HoldsPlace, IsNext}
 use Rattle.meta_log.specs.declared.gate_log.GateLog.{GateLog}
@@ -17,7 +17,7 @@ use Rattle.meta_log.specs.declared.place.Place.{Place}
 use Rattle.meta_log.proofs.Frames.{items-append, length-framed}
 
 -- behind some payloads of the log the others are left
-pub left_of_held : (files : Files) (log : GateLog) (before past : List (List ℕ)) → IsHeld files log (before ++ past) → IsLeft (content files (segment_name log.stem 1)) log.gate (length (items before)) past
+pub left_of_held : (files : Files) (log : GateLog) (before past : List (List ℕ)) → HoldsPayloads files log (before ++ past) → IsLeft (content files (segment_name log.stem 1)) log.gate (length (items before)) past
 left_of_held files log before past held =
     let segment = held.segment.segment in
     let rest = segment.gate ∷ segment.rest in
@@ -42,7 +42,7 @@ batch_all most (suc room) had (text ∷ left) within =
     one_more : (most room had : ℕ) (text : List ℕ) (left : List (List ℕ)) → had < most → batch_from most (suc room) had (text ∷ left) ≡ text ∷ batch_from most room (had + length text) left
     one_more most room had text left below = grind (arith, nat_tests)
 
-place_is : (files : Files) (log : GateLog) (before past : List (List ℕ)) (place : Place) (at : ℕ) → IsHeld files log (before ++ past) → place ≡ place_behind before
+place_is : (files : Files) (log : GateLog) (before past : List (List ℕ)) (place : Place) (at : ℕ) → HoldsPayloads files log (before ++ past) → place ≡ place_behind before
     → at ≡ min place.at (length (content files (segment_name log.stem 1))) → at ≡ length (items before)
 place_is files log before past place at held behind is =
     let segment = held.segment.segment in
@@ -50,7 +50,7 @@ place_is files log before past place at held behind is =
     let long = ap length (segment.spelled ∙ ap (λ (l : List ℕ). l ++ segment.gate ∷ segment.rest) (items-append before past)) in
     omega (arith, is, there, long, length-append (items before ++ items past) (segment.gate ∷ segment.rest), length-append (items before) (items past))
 
-left_at : (files : Files) (log : GateLog) (before past : List (List ℕ)) (at : ℕ) → IsHeld files log (before ++ past) → at ≡ length (items before) → IsLeft (content files (segment_name log.stem 1)) log.gate at past
+left_at : (files : Files) (log : GateLog) (before past : List (List ℕ)) (at : ℕ) → HoldsPayloads files log (before ++ past) → at ≡ length (items before) → IsLeft (content files (segment_name log.stem 1)) log.gate at past
 left_at files log before past at held is =
     subst (λ (n : ℕ). IsLeft (content files (segment_name log.stem 1)) log.gate n past) (sym is) (left_of_held files log before past held)
 
@@ -61,7 +61,7 @@ module _ (name : List ℕ) (log : GateLog) (name_is : name ≡ segment_name log.
 
   next_in : (files : Files) (texts : List (List ℕ)) (next : ℕ) → reading.at ≡ min place.at (length (content files name))
       → ((left : List (List ℕ)) → IsLeft (content files name) log.gate reading.at left → texts ≡ batch_from most room 0 left) → next ≡ reading.at + length (items texts)
-      → (before past : List (List ℕ)) → IsHeld files log (before ++ past) → place ≡ place_behind before → (texts ≡ take room past) × (record { segment = 1; at = next } ≡ place_behind (before ++ take room past))
+      → (before past : List (List ℕ)) → HoldsPayloads files log (before ++ past) → place ≡ place_behind before → (texts ≡ take room past) × (record { segment = 1; at = next } ≡ place_behind (before ++ take room past))
   next_in files texts next at_is collected next_is before past held behind =
       let at_place = place_is files log before past place reading.at held behind (at_is ∙ ap (λ (n : List ℕ). min place.at (length (content files n))) name_is) in
       let here = subst (λ (n : List ℕ). IsLeft (content files n) log.gate reading.at past) (sym name_is) (left_at files log before past reading.at held at_place) in
@@ -93,7 +93,7 @@ told_undamaged (Some files) now name log name_is place reading same holds begins
     absurd (none holds.1 (subst (λ (n : List ℕ). IsLeft (content files n) log.gate reading.at holds.1) (sym name_is) here))
 
 -- all of it is left at the start
-pub left_at_start : (files : Files) (log : GateLog) (payloads : List (List ℕ)) (at : ℕ) → IsHeld files log payloads → at ≡ 0 → IsLeft (content files (segment_name log.stem 1)) log.gate at payloads
+pub left_at_start : (files : Files) (log : GateLog) (payloads : List (List ℕ)) (at : ℕ) → HoldsPayloads files log payloads → at ≡ 0 → IsLeft (content files (segment_name log.stem 1)) log.gate at payloads
 left_at_start files log payloads at held is = left_at files log [] payloads at held is
 
 -- The next place lies behind payloads of the log too.
@@ -103,7 +103,7 @@ told_behind (Some files) now log place next room texts same holds is_next =
     let found = is_next holds.0 holds.1 holds.2 holds.3 in
     let whole : holds.0 ++ holds.1 ≡ (holds.0 ++ take room holds.1) ++ drop room holds.1 =
     ap (λ (l : List (List ℕ)). holds.0 ++ l) (sym (take-append-drop room holds.1)) ∙ sym (append_assoc holds.0 (take room holds.1) (drop room holds.1)) in
-    subst (λ o. HoldsPlace o log next) (sym same) (holds.0 ++ take room holds.1, drop room holds.1, subst (IsHeld files log) whole holds.2, found.1)
+    subst (λ o. HoldsPlace o log next) (sym same) (holds.0 ++ take room holds.1, drop room holds.1, subst (HoldsPayloads files log) whole holds.2, found.1)
 
 -- the items of texts are longer than the texts
 bytes_within : (texts : List (List ℕ)) → sum_by length texts ≤ length (items texts)

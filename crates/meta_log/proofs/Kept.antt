@@ -6,7 +6,7 @@ use Rattle.std.proofs.lemmas.List.Elements.{All-push, All-nil}
 use Rattle.weed_base.specs.Files.{Files, BothTold}
 use Rattle.meta_log.specs.LogText.{NoneFrom, HasText, HasSegment, IsAllowed, IsLogText}
 use Rattle.meta_log.specs.Opening.{IsOpen}
-use Rattle.meta_log.specs.Held.{Holds, IsHeld, IsOpened}
+use Rattle.meta_log.specs.Held.{HoldsGateLog, HoldsPayloads, IsOpened}
 use Rattle.meta_log.specs.declared.gate_log.GateLog.{GateLog}
 use Rattle.meta_log.proofs.Unique.{text_unique}
 use Rattle.meta_log.specs.Making.{IsFresh, IsFreshOrEmpty, LeavesOthers}
@@ -67,13 +67,13 @@ looked_at_keeps Allowed stem begins old synced mid new found same_mid same_old i
 
 -- what an opening hands on
 opened_files : (stem : Stem) (old new : Files) (log : GateLog) → log.stem ≡ stem → IsOpen (IsAllowed stem) (IsAllowed stem) stem log.gate old new
-    → ((payloads : List (List ℕ)) × IsLogText stem old payloads) × ((payloads : List (List ℕ)) → IsLogText stem old payloads → IsHeld new log payloads)
+    → ((payloads : List (List ℕ)) × IsLogText stem old payloads) × ((payloads : List (List ℕ)) → IsLogText stem old payloads → HoldsPayloads new log payloads)
 opened_files stem old new log stem_is found = (
   (found.payloads, found.before),
   λ payloads text.
       let same = text_unique (IsAllowed stem) (IsAllowed stem) stem old found.payloads payloads found.before text in
       let held = subst (λ (s : Stem). HasSegment (IsAllowed s) s new found.payloads) (sym stem_is) found.now in
-      subst (IsHeld new log) same (record { segment = held; gate = found.place }),
+      subst (HoldsPayloads new log) same (record { segment = held; gate = found.place }),
 )
 
 pub opened : (old new : Option Files) (stem : Stem) (log : GateLog) → log.stem ≡ stem → BothTold (IsOpen (IsAllowed stem) (IsAllowed stem) stem log.gate) old new → IsOpened stem old new log
@@ -85,7 +85,7 @@ opened (Some old) (Some new) stem log stem_is found =
     record { stem_is = stem_is; text = both.0; holds = both.1 }
 
 -- So the disk holds the log.
-pub opened_holds : (old new : Option Files) (stem : Stem) (log : GateLog) → BothTold (LeavesOthers stem) old new → IsOpened stem old new log → Holds new log
+pub opened_holds : (old new : Option Files) (stem : Stem) (log : GateLog) → BothTold (LeavesOthers stem) old new → IsOpened stem old new log → HoldsGateLog new log
 opened_holds old None stem log told opened = ([], tt)
 opened_holds None (Some new) stem log told opened = absurd told
 opened_holds (Some old) (Some new) stem log told opened = (opened.text.0, opened.holds opened.text.0 opened.text.1)

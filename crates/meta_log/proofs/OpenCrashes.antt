@@ -3,7 +3,7 @@ use Rattle.std.proofs.Common.{◌≡◌, inl, inr, ℕ, List, refl, sym, ◌∙�
 use Rattle.std.specs.Prelude.{IfSome, IfOk}
 use Rattle.std.proofs.lemmas.List.Elements.{All-nil}
 use Rattle.weed_base.specs.Files.{Files, BothTold, made}
-use Rattle.weed_base.specs.Images.{NoMore, Only, Follows, Takes, Elapses, LeavesOnly, OnlyReads}
+use Rattle.weed_base.specs.Images.{NoMore, Only, Follows, Atomically, Elapses, LeavesOnly, OnlyReads}
 use Rattle.weed_base.proofs.ImageLemmas.{leaves_both, leaves_call, leaves_weaker, reads_leaves}
 use Rattle.name_core.specs.declared.change.Record.{Record}
 use Rattle.meta_log.specs.LogText.{segment_name, on_name, NoneFrom, Suits, IsAllowed, IsLogText, HasText, IsDamage}
@@ -11,7 +11,7 @@ use Rattle.meta_log.specs.Making.{IsPrepared, IsFreshOrEmpty, LeavesOthers}
 use Rattle.meta_log.specs.Records.{AreRecords}
 use Rattle.meta_log.specs.Kept.{IsRecordLog, IsRecordDamage}
 use Rattle.meta_log.specs.Standing.{IsStanding}
-use Rattle.meta_log.specs.Images.{ComesBy, ImagesHold, ImagesKeep, IsMadeFrom, HasListOf, HasLogOf, IsOwn}
+use Rattle.meta_log.specs.Images.{ComesBy, ImagesHoldPayloads, ImagesHoldRecords, IsMadeFrom, HasListOf, HasLogOf, IsOwn}
 use Rattle.meta_log.specs.declared.stem.Stem.{Stem}
 use Rattle.meta_log.specs.declared.stem.Stem.TheVariants.{Log}
 use Rattle.meta_log.specs.declared.standing.Standing.{Standing}
@@ -23,7 +23,7 @@ use Rattle.meta_log.proofs.RecordLogs.{any_allowed, as_text, from_log}
 use Rattle.meta_log.proofs.Damage.{no_damage, no_record_damage}
 
 -- What a call does at once makes no segment count where none does.
-pub none_taken : (stem : Stem) (file : List ℕ) → file ≡ segment_name stem 1 → (old new : Files → Type 0) → Follows (Takes (made file)) old new
+pub none_taken : (stem : Stem) (file : List ℕ) → file ≡ segment_name stem 1 → (old new : Files → Type 0) → Follows (Atomically (made file)) old new
     → ((image : Files) → old image → NoneFrom stem 1 image) → (image : Files) → new image → NoneFrom stem 1 image
 none_taken stem file is old new follows none image left =
     let from = follows image left in
@@ -33,7 +33,7 @@ none_taken stem file is old new follows none image left =
     ]
 
 -- A first segment that was prepared counts, or doesn't yet.
-pub on_taken : (stem : Stem) (file : List ℕ) → file ≡ on_name stem 1 → (old new : Files → Type 0) → Follows (Takes (made file)) old new
+pub on_taken : (stem : Stem) (file : List ℕ) → file ≡ on_name stem 1 → (old new : Files → Type 0) → Follows (Atomically (made file)) old new
     → ((image : Files) → old image → IsPrepared stem image) → (image : Files) → new image → IsFreshOrEmpty stem image
 on_taken stem file is old new follows prepared image left =
     let from = follows image left in
@@ -114,13 +114,13 @@ log_of images image from = (
 -- What was opened is settled.
 pub list_settled : (stem : Stem) (old new : Option Files) (images : Files → Type 0) → Only new images
     → ((payloads : List (List ℕ)) → IfSome old (λ files. IsLogText stem files payloads) → IfSome new (λ files. IsLogText stem files payloads))
-    → (files : Files) (payloads : List (List ℕ)) → old ≡ Some files → IsLogText stem files payloads → ImagesHold stem images payloads
+    → (files : Files) (payloads : List (List ℕ)) → old ≡ Some files → IsLogText stem files payloads → ImagesHoldPayloads stem images payloads
 list_settled stem old new images only kept files payloads is text =
     each_settled (λ f. IsLogText stem f payloads) new images only (kept payloads (subst (λ o. IfSome o (λ f. IsLogText stem f payloads)) (sym is) text))
 
 pub log_settled : (old new : Option Files) (images : Files → Type 0) → Only new images
     → ((payloads : List (List ℕ)) → IfSome old (λ files. HasText AreRecords Log files payloads) → IfSome new (λ files. HasText AreRecords Log files payloads))
-    → (files : Files) (records : List Record) → old ≡ Some files → IsRecordLog files records → ImagesKeep images records
+    → (files : Files) (records : List Record) → old ≡ Some files → IsRecordLog files records → ImagesHoldRecords images records
 log_settled old new images only kept files records is log =
     let text = kept log.payloads (subst (λ o. IfSome o (λ f. HasText AreRecords Log f log.payloads)) (sym is) (from_log files records log)) in
     record {

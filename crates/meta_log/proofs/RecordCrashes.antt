@@ -6,9 +6,9 @@ use Rattle.weed_base.proofs.ImageLemmas.{leaves_weaker}
 use Rattle.name_core.specs.declared.change.Record.{Record}
 use Rattle.meta_log.specs.LogText.{IsAllowed, IsLogText, HasSegment}
 use Rattle.meta_log.specs.Records.{ReadsAs}
-use Rattle.meta_log.specs.Kept.{IsKept, IsRecordLog, front_of, IsEitherLog}
+use Rattle.meta_log.specs.Kept.{HoldsRecords, IsRecordLog, front_of, IsEitherLog}
 use Rattle.meta_log.specs.Held.{IsEither}
-use Rattle.meta_log.specs.Images.{ImagesHold, ImagesKeep}
+use Rattle.meta_log.specs.Images.{ImagesHoldPayloads, ImagesHoldRecords}
 use Rattle.meta_log.specs.declared.stem.Stem.{Stem}
 use Rattle.meta_log.specs.declared.stem.Stem.TheVariants.{Log}
 use Rattle.meta_log.specs.declared.front.Front.{Front}
@@ -17,16 +17,16 @@ use Rattle.meta_log.proofs.Unique.{text_unique}
 use Rattle.meta_log.proofs.RecordLists.{grown}
 
 -- Each image is a log of the records.
-pub keeps_each : (images : Files → Type 0) (records : List Record) → ImagesKeep images records → (image : Files) → images image → IsRecordLog image records
+pub keeps_each : (images : Files → Type 0) (records : List Record) → ImagesHoldRecords images records → (image : Files) → images image → IsRecordLog image records
 keeps_each images records keep image left = record { payloads = keep.payloads; text = keep.texts image left; read = keep.read; times = keep.times }
 
-module _ (meta : MetaLog) (files : Files) (records : List Record) (stem_is : meta.log.stem ≡ Log) (kept : IsKept files meta records) where
+module _ (meta : MetaLog) (files : Files) (records : List Record) (stem_is : meta.log.stem ≡ Log) (kept : HoldsRecords files meta records) where
   -- the images have the texts that reads give
-  pub same_texts : (images : Files → Type 0) → images files → ImagesKeep images records → ImagesHold meta.log.stem images kept.payloads
+  pub same_texts : (images : Files → Type 0) → images files → ImagesHoldRecords images records → ImagesHoldPayloads meta.log.stem images kept.payloads
   same_texts images read keep =
       let segment = subst (λ (s : Stem). HasSegment (IsAllowed s) s files kept.payloads) stem_is kept.held.segment in
       let same = text_unique (IsAllowed Log) (IsAllowed Log) Log files kept.payloads keep.payloads (inr segment) (keep.texts files read) in
-      subst (λ (s : Stem). ImagesHold s images kept.payloads) (sym stem_is) (subst (ImagesHold Log images) (sym same) keep.texts)
+      subst (λ (s : Stem). ImagesHoldPayloads s images kept.payloads) (sym stem_is) (subst (ImagesHoldPayloads Log images) (sym same) keep.texts)
 
   module _ (text : List ℕ) (known : Record) (reads : ReadsAs text known) (past : (front_of meta).time < known.time) where
     either_log : (image : Files) → IsEither meta.log.stem kept.payloads text image → IsEitherLog records known image
@@ -40,12 +40,12 @@ module _ (meta : MetaLog) (files : Files) (records : List Record) (stem_is : met
     records_leave tick since old new leaves =
         leaves_weaker tick since old new (IsEither meta.log.stem kept.payloads text) (IsEitherLog records known) either_log leaves
 
-    pub records_settle : (images : Files → Type 0) → ImagesHold meta.log.stem images (kept.payloads ++ text ∷ []) → ImagesKeep images (records ++ known ∷ [])
+    pub records_settle : (images : Files → Type 0) → ImagesHoldPayloads meta.log.stem images (kept.payloads ++ text ∷ []) → ImagesHoldRecords images (records ++ known ∷ [])
     records_settle images hold =
         let both = grown records known text reads (subst (λ (f : Front). f.time < known.time) kept.front past) kept.payloads kept.read kept.times in
         record {
           payloads = kept.payloads ++ text ∷ [];
-          texts = subst (λ (s : Stem). ImagesHold s images (kept.payloads ++ text ∷ [])) stem_is hold;
+          texts = subst (λ (s : Stem). ImagesHoldPayloads s images (kept.payloads ++ text ∷ [])) stem_is hold;
           read = both.0;
           times = both.1;
         }

@@ -6,9 +6,9 @@ use Rattle.weed_base.specs.Files.{Files, BothTold}
 use Rattle.name_core.specs.declared.change.Record.{Record}
 use Rattle.name_core.specs.Log.{TimesRise, last_time, last_time_from, end_of_time}
 use Rattle.meta_log.specs.LogText.{segment_name, IsAllowed, HasSegment, IsLogText, ChangesOnly}
-use Rattle.meta_log.specs.Held.{IsHeld, HoldsLog, HoldsText, IsEither, HoldsEither, stem_of}
+use Rattle.meta_log.specs.Held.{HoldsPayloads, TellsPayloads, TellsText, IsEither, TellsEither, stem_of}
 use Rattle.meta_log.specs.Records.{ReadsAs, IsNoRecord, ReadAs, AreRecords, HasFront}
-use Rattle.meta_log.specs.Kept.{IsKept, HoldsRecords, HoldsEitherLog, front_of}
+use Rattle.meta_log.specs.Kept.{HoldsRecords, TellsRecords, TellsEitherLog, front_of}
 use Rattle.meta_log.proofs.RecordTimes.{time_bounded}
 use Rattle.meta_log.specs.declared.stem.Stem.{Stem}
 use Rattle.meta_log.specs.declared.stem.Stem.TheVariants.{Log}
@@ -110,9 +110,9 @@ module _ (records : List Record) (known : Record) (text : List ℕ) (reads : Rea
 
 -- An append that was done.
 pub record_appended : (old new : Option Files) (meta later : MetaLog) (text : List ℕ) → BothTold (ChangesOnly (segment_name Log 1)) old new
-    → ((payloads : List (List ℕ)) → HoldsLog old meta.log payloads → HoldsLog new later.log (payloads ++ text ∷ []))
-    → (records : List Record) (known : Record) → HoldsRecords old meta records → ReadsAs text known → (front_of meta).time < known.time
-    → front_of later ≡ record { count = (front_of meta).count + 1; time = known.time } → HoldsRecords new later (records ++ known ∷ [])
+    → ((payloads : List (List ℕ)) → TellsPayloads old meta.log payloads → TellsPayloads new later.log (payloads ++ text ∷ []))
+    → (records : List Record) (known : Record) → TellsRecords old meta records → ReadsAs text known → (front_of meta).time < known.time
+    → front_of later ≡ record { count = (front_of meta).count + 1; time = known.time } → TellsRecords new later (records ++ known ∷ [])
 record_appended old None meta later text told appended records known held reads past front = tt
 record_appended None (Some new) meta later text told appended records known held reads past front = absurd told
 record_appended (Some old) (Some new) meta later text told appended records known held reads past front =
@@ -130,8 +130,8 @@ record_appended (Some old) (Some new) meta later text told appended records know
 
 -- One that failed.
 pub record_failed : (old new : Option Files) (meta : MetaLog) (text : List ℕ) → BothTold (ChangesOnly (segment_name Log 1)) old new → stem_of meta.log ≡ Log
-    → ((payloads : List (List ℕ)) → HoldsLog old meta.log payloads → HoldsEither (stem_of meta.log) new payloads text)
-    → (records : List Record) (known : Record) → HoldsRecords old meta records → ReadsAs text known → (front_of meta).time < known.time → HoldsEitherLog new records known
+    → ((payloads : List (List ℕ)) → TellsPayloads old meta.log payloads → TellsEither (stem_of meta.log) new payloads text)
+    → (records : List Record) (known : Record) → TellsRecords old meta records → ReadsAs text known → (front_of meta).time < known.time → TellsEitherLog new records known
 record_failed old None meta text told is_log failed records known held reads past = tt
 record_failed None (Some new) meta text told is_log failed records known held reads past = absurd told
 record_failed (Some old) (Some new) meta text told is_log failed records known held reads past =
@@ -143,15 +143,15 @@ record_failed (Some old) (Some new) meta text told is_log failed records known h
     ]
 
 -- What a log of records holds is the text of its disk.
-held_text : (files : Files) (meta : MetaLog) (records : List Record) (payloads : List (List ℕ)) → meta.log.stem ≡ Log → IsKept files meta records → IsLogText Log files payloads → IsHeld files meta.log payloads
+held_text : (files : Files) (meta : MetaLog) (records : List Record) (payloads : List (List ℕ)) → meta.log.stem ≡ Log → HoldsRecords files meta records → IsLogText Log files payloads → HoldsPayloads files meta.log payloads
 held_text files meta records payloads is_log kept text =
     let segment = subst (λ (s : Stem). HasSegment (IsAllowed s) s files kept.payloads) is_log kept.held.segment in
-    subst (IsHeld files meta.log) (text_unique (IsAllowed Log) (IsAllowed Log) Log files kept.payloads payloads (inr segment) text) kept.held
+    subst (HoldsPayloads files meta.log) (text_unique (IsAllowed Log) (IsAllowed Log) Log files kept.payloads payloads (inr segment) text) kept.held
 
 -- An append that was done, by its texts.
 pub texts_appended : (old new : Option Files) (meta : MetaLog) (later : GateLog) (text : List ℕ) (records : List Record) → BothTold (ChangesOnly (segment_name Log 1)) old new → meta.log.stem ≡ Log → later.stem ≡ meta.log.stem
-    → HoldsRecords old meta records → ((payloads : List (List ℕ)) → HoldsLog old meta.log payloads → HoldsLog new later (payloads ++ text ∷ []))
-    → (payloads : List (List ℕ)) → HoldsText Log old payloads → HoldsText Log new (payloads ++ text ∷ [])
+    → TellsRecords old meta records → ((payloads : List (List ℕ)) → TellsPayloads old meta.log payloads → TellsPayloads new later (payloads ++ text ∷ []))
+    → (payloads : List (List ℕ)) → TellsText Log old payloads → TellsText Log new (payloads ++ text ∷ [])
 texts_appended old None meta later text records told is_log same kept appended payloads was = tt
 texts_appended None (Some new) meta later text records told is_log same kept appended payloads was = absurd told
 texts_appended (Some old) (Some new) meta later text records told is_log same kept appended payloads was =
@@ -160,8 +160,8 @@ texts_appended (Some old) (Some new) meta later text records told is_log same ke
 
 -- One that failed.
 pub texts_failed : (old new : Option Files) (meta : MetaLog) (text : List ℕ) (records : List Record) → BothTold (ChangesOnly (segment_name Log 1)) old new → meta.log.stem ≡ Log
-    → HoldsRecords old meta records → ((payloads : List (List ℕ)) → HoldsLog old meta.log payloads → HoldsEither (stem_of meta.log) new payloads text)
-    → (payloads : List (List ℕ)) → HoldsText Log old payloads → HoldsEither Log new payloads text
+    → TellsRecords old meta records → ((payloads : List (List ℕ)) → TellsPayloads old meta.log payloads → TellsEither (stem_of meta.log) new payloads text)
+    → (payloads : List (List ℕ)) → TellsText Log old payloads → TellsEither Log new payloads text
 texts_failed old None meta text records told is_log kept failed payloads was = tt
 texts_failed None (Some new) meta text records told is_log kept failed payloads was = absurd told
 texts_failed (Some old) (Some new) meta text records told is_log kept failed payloads was =

@@ -9,7 +9,7 @@ use Rattle.meta_log.specs.LogText.{IsAllowed, HasSegment, HasText}
 use Rattle.meta_log.specs.Making.{LeavesOthers}
 use Rattle.meta_log.specs.Opening.{IsOpen}
 use Rattle.meta_log.specs.Records.{ReadAs, AreRecords, HasFront, front_of_records}
-use Rattle.meta_log.specs.Kept.{IsRecordLog, HoldsRecordLog, Keeps, IsKept, IsOpenedFrom}
+use Rattle.meta_log.specs.Kept.{IsRecordLog, TellsRecordLog, HoldsMetaLog, HoldsRecords, IsOpenedFrom}
 use Rattle.meta_log.specs.declared.stem.Stem.{Stem}
 use Rattle.meta_log.specs.declared.stem.Stem.TheVariants.{Log}
 use Rattle.meta_log.specs.declared.meta_log.MetaLog.{MetaLog}
@@ -39,7 +39,7 @@ to_log files payloads records text read rise = record {
 pub from_log : (files : Files) (records : List Record) (log : IsRecordLog files records) → HasText AreRecords Log files log.payloads
 from_log files records log = as_text (IsAllowed Log) AreRecords Log files log.payloads log.text (records, log.read, log.times)
 
-kept_in : (meta : MetaLog) (old new : Files) → meta.log.stem ≡ Log → IsOpen AreRecords (HasFront meta.front) Log meta.log.gate old new → (records : List Record) → IsRecordLog old records → IsKept new meta records
+kept_in : (meta : MetaLog) (old new : Files) → meta.log.stem ≡ Log → IsOpen AreRecords (HasFront meta.front) Log meta.log.gate old new → (records : List Record) → IsRecordLog old records → HoldsRecords new meta records
 kept_in meta old new stem_is found records log =
     let same = text_unique AreRecords AreRecords Log old found.payloads log.payloads found.before (from_log old records log) in
     let passed = subst (HasFront meta.front) same found.passed in
@@ -68,13 +68,13 @@ records_opened (Some old) (Some new) meta stem_is found = record {
 -- the records stay
 pub records_kept : (old new : Option Files) → BothTold (LeavesOthers Log) old new
     → ((payloads : List (List ℕ)) → IfSome old (λ files. HasText AreRecords Log files payloads) → IfSome new (λ files. HasText AreRecords Log files payloads))
-    → (records : List Record) → HoldsRecordLog old records → HoldsRecordLog new records
+    → (records : List Record) → TellsRecordLog old records → TellsRecordLog new records
 records_kept old None told kept records log = tt
 records_kept None (Some new) told kept records log = absurd told
 records_kept (Some old) (Some new) told kept records log = to_log new log.payloads records (kept log.payloads (from_log old records log)) log.read log.times
 
 -- So the disk holds the log.
-pub opened_keeps : (old new : Option Files) (meta : MetaLog) → BothTold (LeavesOthers Log) old new → IsOpenedFrom old new meta → Keeps new meta
+pub opened_keeps : (old new : Option Files) (meta : MetaLog) → BothTold (LeavesOthers Log) old new → IsOpenedFrom old new meta → HoldsMetaLog new meta
 opened_keeps old None meta told opened = ([], tt)
 opened_keeps None (Some new) meta told opened = absurd told
 opened_keeps (Some old) (Some new) meta told opened = (opened.text.0, opened.holds opened.text.0 opened.text.1)

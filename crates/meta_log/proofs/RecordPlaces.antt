@@ -3,16 +3,16 @@ use Rattle.std.proofs.Common.{◌≡◌, ℕ, zero, suc, List, [], ◌∷◌, �
 use Rattle.weed_base.specs.Files.{Files}
 use Rattle.name_core.specs.declared.change.Record.{Record}
 use Rattle.name_core.specs.Log.{TimesRise}
-use Rattle.meta_log.specs.Held.{IsHeld}
+use Rattle.meta_log.specs.Held.{HoldsPayloads}
 use Rattle.meta_log.specs.Records.{ReadAs, front_of_records}
-use Rattle.meta_log.specs.Kept.{IsKept, Keeps}
+use Rattle.meta_log.specs.Kept.{HoldsRecords, HoldsMetaLog}
 use Rattle.meta_log.specs.Places.{place_behind, HoldsPlace, IsNext}
-use Rattle.meta_log.specs.RecordPlaces.{LiesBetween, KeepsPlace, AreNext}
+use Rattle.meta_log.specs.RecordPlaces.{LiesBetween, HoldsRecordPlace, AreNext}
 use Rattle.meta_log.specs.declared.meta_log.MetaLog.{MetaLog}
 use Rattle.meta_log.specs.declared.place.Place.{Place}
 
 -- The start lies before all records.
-pub start_lies : (files : Files) (meta : MetaLog) (place : Place) (records : List Record) → IsKept files meta records → place ≡ place_behind [] → LiesBetween files meta place [] records
+pub start_lies : (files : Files) (meta : MetaLog) (place : Place) (records : List Record) → HoldsRecords files meta records → place ≡ place_behind [] → LiesBetween files meta place [] records
 start_lies files meta place records kept begins = record { kept = kept; before = []; past = kept.payloads; split = refl; read_before = tt; read_past = kept.read; place_is = begins }
 
 -- Payloads and their records, cut at one number
@@ -44,7 +44,7 @@ recut room first others = ap (λ (l : List _). first ++ l) (sym (take-append-dro
 next_lies : (files : Files) (meta : MetaLog) (place next : Place) (room : ℕ) (texts : List (List ℕ)) → IsNext (Some files) meta.log place room texts next
     → AreNext (Some files) meta place room texts next
 next_lies files meta place next room texts is first others lies =
-    let found = is lies.before lies.past (subst (IsHeld files meta.log) lies.split lies.kept.held) lies.place_is in
+    let found = is lies.before lies.past (subst (HoldsPayloads files meta.log) lies.split lies.kept.held) lies.place_is in
     let whole = recut room first others in
     let read = ReadAs-take room lies.past others lies.read_past in (
       found.0,
@@ -70,14 +70,14 @@ pub told_next_records : (told : Option Files) (meta : MetaLog) (place next : Pla
 told_next_records None meta place next room texts is = tt
 told_next_records (Some files) meta place next room texts is = next_lies files meta place next room texts is
 
-pub told_behind_records : (told now : Option Files) (meta : MetaLog) (place next : Place) (room : ℕ) (texts : List (List ℕ)) → now ≡ told → KeepsPlace told meta place → IsNext told meta.log place room texts next
-    → KeepsPlace now meta next
-told_behind_records None now meta place next room texts same keeps is = subst (λ o. KeepsPlace o meta next) (sym same) ([], [], tt)
+pub told_behind_records : (told now : Option Files) (meta : MetaLog) (place next : Place) (room : ℕ) (texts : List (List ℕ)) → now ≡ told → HoldsRecordPlace told meta place → IsNext told meta.log place room texts next
+    → HoldsRecordPlace now meta next
+told_behind_records None now meta place next room texts same keeps is = subst (λ o. HoldsRecordPlace o meta next) (sym same) ([], [], tt)
 told_behind_records (Some files) now meta place next room texts same keeps is =
     let found = next_lies files meta place next room texts is keeps.0 keeps.1 keeps.2 in
-    subst (λ o. KeepsPlace o meta next) (sym same) (keeps.0 ++ take room keeps.1, drop room keeps.1, found.2)
+    subst (λ o. HoldsRecordPlace o meta next) (sym same) (keeps.0 ++ take room keeps.1, drop room keeps.1, found.2)
 
 -- What lies between records lies between payloads.
-pub keeps_holds : (told : Option Files) (meta : MetaLog) (place : Place) → KeepsPlace told meta place → HoldsPlace told meta.log place
+pub keeps_holds : (told : Option Files) (meta : MetaLog) (place : Place) → HoldsRecordPlace told meta place → HoldsPlace told meta.log place
 keeps_holds None meta place keeps = tt
-keeps_holds (Some files) meta place keeps = let lies = keeps.2 in (lies.before, lies.past, subst (IsHeld files meta.log) lies.split lies.kept.held, lies.place_is)
+keeps_holds (Some files) meta place keeps = let lies = keeps.2 in (lies.before, lies.past, subst (HoldsPayloads files meta.log) lies.split lies.kept.held, lies.place_is)

@@ -15,14 +15,14 @@ abbrev pub ComesBy : (Files → Files → Type 0) → (Files → Type 0) → Fil
 ComesBy Step images image = (before : Files) × images before × Step before image
 
 -- Each image is a log text for this list.
-abbrev pub ImagesHold : Stem → (Files → Type 0) → List (List ℕ) → Type 0
-ImagesHold stem images payloads = (image : Files) → images image → IsLogText stem image payloads
+abbrev pub ImagesHoldPayloads : Stem → (Files → Type 0) → List (List ℕ) → Type 0
+ImagesHoldPayloads stem images payloads = (image : Files) → images image → IsLogText stem image payloads
 
 -- Each image is a log of these records, and all of them by the same texts: one that spells a record otherwise has
 -- its gate elsewhere.
-pub record ImagesKeep (images : Files → Type 0) (records : List Record) : Type 0 where
+pub record ImagesHoldRecords (images : Files → Type 0) (records : List Record) : Type 0 where
   pub payloads : List (List ℕ)
-  pub texts : ImagesHold Log images payloads
+  pub texts : ImagesHoldPayloads Log images payloads
   pub read : ReadAs payloads records
   pub times : TimesRise 0 records
 

@@ -26,8 +26,8 @@ pub struct GateLog {
 }
 
 impl GateLog {
-    ghost use Rattle.meta_log.specs.Held.{Holds, HoldsLog, HoldsText, HoldsEither, IsHeld, IsOpened, stem_of, gate_of, IsEither};
-    ghost use Rattle.meta_log.specs.Images.{ComesBy, ImagesHold, IsMadeFrom, HasListOf};
+    ghost use Rattle.meta_log.specs.Held.{HoldsGateLog, TellsPayloads, TellsText, TellsEither, HoldsPayloads, IsOpened, stem_of, gate_of, IsEither};
+    ghost use Rattle.meta_log.specs.Images.{ComesBy, ImagesHoldPayloads, IsMadeFrom, HasListOf};
     ghost use Rattle.meta_log.specs.Faults.{IfDamaged};
     ghost use Rattle.meta_log.specs.Left.{BreaksAt};
     ghost use Rattle.meta_log.specs.Places.{place_behind, HoldsPlace, IsNext, begins_at, ReadsFrom};
@@ -36,14 +36,14 @@ impl GateLog {
     /// log, `Damaged` names the first file and place to blame, and nothing is changed.
     pub fn open<D: Disk>(alloc: Global, disk: &mut D, stem: Stem) -> Result<GateLog, LogFault>
         requires { MayKeep D.MARKS_ONLY stem }
-        ensures held { IfOk result (Holds (D.files disk.new)) }
+        ensures held { IfOk result (HoldsGateLog (D.files disk.new)) }
         ensures opened { IfOk result (λ log. IsOpened stem (D.files disk.old) (D.files disk.new) log) }
         ensures damaged { IfErr result (IfDamaged (λ file at.
             IfSome (D.files disk.old) (λ files. IsDamage stem files file at) × (D.files disk.new ≡ D.files disk.old))) }
         ensures blamed { IfErr result (IfDamaged (λ file _. IsBlamable stem file)) }
 
         // Whatever comes of it, the list that the disk holds stays.
-        ensures kept { (payloads : List (List ℕ)) → HoldsText stem (D.files disk.old) payloads → HoldsText stem (D.files disk.new) payloads }
+        ensures kept { (payloads : List (List ℕ)) → TellsText stem (D.files disk.old) payloads → TellsText stem (D.files disk.new) payloads }
 
         // Where any segment counts, nothing is changed, whatever is answered.
         ensures files { BothTold (IsMadeFrom stem) (D.files disk.old) (D.files disk.new) }
@@ -56,7 +56,7 @@ impl GateLog {
         // read. Where each would have left a list, nothing is damaged.
         ensures atomic { (files : Files) → D.files disk.old ≡ Some files → Acts D.Disk disk.old disk.new (HasListOf stem (D.images disk.old)) }
         ensures settled { IfOk result (λ _. (files : Files) (payloads : List (List ℕ)) → D.files disk.old ≡ Some files → IsLogText stem files payloads
-            → ImagesHold stem (D.images disk.new) payloads) }
+            → ImagesHoldPayloads stem (D.images disk.new) payloads) }
         ensures own { (files : Files) → D.files disk.old ≡ Some files
             → ((image : Files) → D.images disk.old image → (payloads : List (List ℕ)) × IsLogText stem image payloads) → IfErr result (IfDamaged (λ _ _. ⊥)) }
 
@@ -71,25 +71,25 @@ impl GateLog {
     /// Adds a payload, by four calls of the disk at most. Takes no memory. After `Failed` the log is to be opened
     /// again.
     pub fn append<D: Disk>(&mut self, disk: &mut D, text: &GateText) -> Result<(), Failed>
-        requires held { Holds (D.files disk.old) self.old }
+        requires held { HoldsGateLog (D.files disk.old) self.old }
         requires suits { Suits (stem_of self.old) text.now }
 
-        ensures held { OnOk result (Holds (D.files disk.new) self.new) }
-        ensures appended { OnOk result ((payloads : List (List ℕ)) → HoldsLog (D.files disk.old) self.old payloads
-            → HoldsLog (D.files disk.new) self.new (payloads ++ text.now ∷ [])) }
-        ensures failed { OnErr result ((payloads : List (List ℕ)) → HoldsLog (D.files disk.old) self.old payloads
-            → HoldsEither (stem_of self.old) (D.files disk.new) payloads text.now) }
+        ensures held { OnOk result (HoldsGateLog (D.files disk.new) self.new) }
+        ensures appended { OnOk result ((payloads : List (List ℕ)) → TellsPayloads (D.files disk.old) self.old payloads
+            → TellsPayloads (D.files disk.new) self.new (payloads ++ text.now ∷ [])) }
+        ensures failed { OnErr result ((payloads : List (List ℕ)) → TellsPayloads (D.files disk.old) self.old payloads
+            → TellsEither (stem_of self.old) (D.files disk.new) payloads text.now) }
         ensures stem { stem_of self.new ≡ stem_of self.old }
         ensures bytes { OnOk result (AppendsAt (segment_name (stem_of self.old) 1) (gate_of self.old) text.now (D.files disk.old) (D.files disk.new)) }
         ensures moves { OnOk result (gate_of self.old < gate_of self.new) }
         ensures same { OnErr result (self.new ≡ self.old) }
 
         // A crash at any moment leaves the list, or the list with the payload; after `Ok` the latter.
-        ensures atomic { (files : Files) (payloads : List (List ℕ)) → D.files disk.old ≡ Some files → IsHeld files self.old payloads
-            → ImagesHold (stem_of self.old) (D.images disk.old) payloads
+        ensures atomic { (files : Files) (payloads : List (List ℕ)) → D.files disk.old ≡ Some files → HoldsPayloads files self.old payloads
+            → ImagesHoldPayloads (stem_of self.old) (D.images disk.old) payloads
             → Acts D.Disk disk.old disk.new (IsEither (stem_of self.old) payloads text.now) }
-        ensures settled { OnOk result ((files : Files) (payloads : List (List ℕ)) → D.files disk.old ≡ Some files → IsHeld files self.old payloads
-            → ImagesHold (stem_of self.old) (D.images disk.new) (payloads ++ text.now ∷ [])) }
+        ensures settled { OnOk result ((files : Files) (payloads : List (List ℕ)) → D.files disk.old ≡ Some files → HoldsPayloads files self.old payloads
+            → ImagesHoldPayloads (stem_of self.old) (D.images disk.new) (payloads ++ text.now ∷ [])) }
 
         ensures calls { D.tick disk.new ≤ D.tick disk.old + 4 }
         ensures others { BothTold (ChangesOnly (segment_name (stem_of self.old) 1)) (D.files disk.old) (D.files disk.new) }

@@ -27,6 +27,3 @@ pub use gate_text::GateText;
 pub use meta_log::MetaLog;
 pub use place::Place;
 pub use stem::Stem;
-
-#[cfg(test)]
-mod tests;

@@ -38,25 +38,25 @@ pub struct MetaLog {
 
 impl MetaLog {
     ghost use Rattle.meta_log.specs.Faults.{IfDamaged};
-    ghost use Rattle.meta_log.specs.Held.{gate_of, HoldsText, HoldsEither};
-    ghost use Rattle.meta_log.specs.Kept.{front_of, IsRecordLog, HoldsRecordLog, Keeps, HoldsRecords, HoldsEitherLog, IsOpenedFrom, IsKept, IsRecordDamage, IsPast, IsEitherLog, ReadsAfter, BreaksAfter};
-    ghost use Rattle.meta_log.specs.Images.{ComesBy, ImagesKeep, IsMadeFrom, HasLogOf, IsOwn};
+    ghost use Rattle.meta_log.specs.Held.{gate_of, TellsText, TellsEither};
+    ghost use Rattle.meta_log.specs.Kept.{front_of, IsRecordLog, TellsRecordLog, HoldsMetaLog, TellsRecords, TellsEitherLog, IsOpenedFrom, HoldsRecords, IsRecordDamage, IsPast, IsEitherLog, ReadsAfter, BreaksAfter};
+    ghost use Rattle.meta_log.specs.Images.{ComesBy, ImagesHoldRecords, IsMadeFrom, HasLogOf, IsOwn};
     ghost use Rattle.meta_log.specs.Left.{BreaksAt};
     ghost use Rattle.meta_log.specs.Places.{place_behind, begins_at, ReadsFrom};
-    ghost use Rattle.meta_log.specs.RecordPlaces.{KeepsPlace, AreNext};
+    ghost use Rattle.meta_log.specs.RecordPlaces.{HoldsRecordPlace, AreNext};
 
     /// Opens the log of records of a disk, and makes its first segment where none counts. Syncs first. Where the
     /// files are no log of records, `Damaged` names the first file and place to blame, and nothing is changed.
     pub fn open<D: Disk>(alloc: Global, disk: &mut D) -> Result<MetaLog, LogFault>
         requires { D.MARKS_ONLY ≡ false }
-        ensures held { IfOk result (Keeps (D.files disk.new)) }
+        ensures held { IfOk result (HoldsMetaLog (D.files disk.new)) }
         ensures opened { IfOk result (λ meta. IsOpenedFrom (D.files disk.old) (D.files disk.new) meta) }
         ensures damaged { IfErr result (IfDamaged (λ file at.
             IfSome (D.files disk.old) (λ files. IsRecordDamage files file at) × (D.files disk.new ≡ D.files disk.old))) }
         ensures blamed { IfErr result (IfDamaged (λ file _. IsBlamable Log file)) }
 
         // Whatever comes of it, the records that the disk holds stay.
-        ensures kept { (records : List Record) → HoldsRecordLog (D.files disk.old) records → HoldsRecordLog (D.files disk.new) records }
+        ensures kept { (records : List Record) → TellsRecordLog (D.files disk.old) records → TellsRecordLog (D.files disk.new) records }
 
         // Where any segment counts, nothing is changed, whatever is answered.
         ensures files { BothTold (IsMadeFrom Log) (D.files disk.old) (D.files disk.new) }
@@ -69,7 +69,7 @@ impl MetaLog {
         // read. A disk of one's own isn't damaged.
         ensures atomic { (files : Files) → D.files disk.old ≡ Some files → Acts D.Disk disk.old disk.new (HasLogOf (D.images disk.old)) }
         ensures settled { IfOk result (λ _. (files : Files) (records : List Record) → D.files disk.old ≡ Some files → IsRecordLog files records
-            → ImagesKeep (D.images disk.new) records) }
+            → ImagesHoldRecords (D.images disk.new) records) }
         ensures own { (files : Files) → D.files disk.old ≡ Some files → IsOwn (D.images disk.old) → IfErr result (IfDamaged (λ _ _. ⊥)) }
 
         ensures others { BothTold (LeavesOthers Log) (D.files disk.old) (D.files disk.new) }
@@ -98,32 +98,32 @@ impl MetaLog {
         time: u64,
         text: &GateText,
     ) -> Result<(), Failed>
-        requires held { Keeps (D.files disk.old) self.old }
+        requires held { HoldsMetaLog (D.files disk.old) self.old }
         requires reads { (known : Record) × ReadsAs text.now known × (known.time ≡ time) }
         requires past { (front_of self.old).time < time }
 
-        ensures held { OnOk result (Keeps (D.files disk.new) self.new) }
-        ensures appended { OnOk result ((records : List Record) (known : Record) → HoldsRecords (D.files disk.old) self.old records
-            → ReadsAs text.now known → known.time ≡ time → HoldsRecords (D.files disk.new) self.new (records ++ known ∷ [])) }
-        ensures failed { OnErr result ((records : List Record) (known : Record) → HoldsRecords (D.files disk.old) self.old records
-            → ReadsAs text.now known → known.time ≡ time → HoldsEitherLog (D.files disk.new) records known) }
+        ensures held { OnOk result (HoldsMetaLog (D.files disk.new) self.new) }
+        ensures appended { OnOk result ((records : List Record) (known : Record) → TellsRecords (D.files disk.old) self.old records
+            → ReadsAs text.now known → known.time ≡ time → TellsRecords (D.files disk.new) self.new (records ++ known ∷ [])) }
+        ensures failed { OnErr result ((records : List Record) (known : Record) → TellsRecords (D.files disk.old) self.old records
+            → ReadsAs text.now known → known.time ≡ time → TellsEitherLog (D.files disk.new) records known) }
 
         // The same of the texts themselves, whatever record they read as.
-        ensures text_appended { OnOk result ((payloads : List (List ℕ)) → HoldsText Log (D.files disk.old) payloads
-            → HoldsText Log (D.files disk.new) (payloads ++ text.now ∷ [])) }
-        ensures text_failed { OnErr result ((payloads : List (List ℕ)) → HoldsText Log (D.files disk.old) payloads
-            → HoldsEither Log (D.files disk.new) payloads text.now) }
+        ensures text_appended { OnOk result ((payloads : List (List ℕ)) → TellsText Log (D.files disk.old) payloads
+            → TellsText Log (D.files disk.new) (payloads ++ text.now ∷ [])) }
+        ensures text_failed { OnErr result ((payloads : List (List ℕ)) → TellsText Log (D.files disk.old) payloads
+            → TellsEither Log (D.files disk.new) payloads text.now) }
 
         ensures bytes { OnOk result (AppendsAt (segment_name Log 1) (gate_of self.old.log) text.now (D.files disk.old) (D.files disk.new)) }
         ensures front { OnOk result (front_of self.new ≡ record { count = (front_of self.old).count + 1; time = time }) }
         ensures same { OnErr result (self.new ≡ self.old) }
 
         // A crash at any moment leaves the records, or the records with this one; after `Ok` the latter.
-        ensures atomic { (files : Files) (records : List Record) (known : Record) → D.files disk.old ≡ Some files → IsKept files self.old records
-            → ReadsAs text.now known → known.time ≡ time → ImagesKeep (D.images disk.old) records
+        ensures atomic { (files : Files) (records : List Record) (known : Record) → D.files disk.old ≡ Some files → HoldsRecords files self.old records
+            → ReadsAs text.now known → known.time ≡ time → ImagesHoldRecords (D.images disk.old) records
             → Acts D.Disk disk.old disk.new (IsEitherLog records known) }
-        ensures settled { OnOk result ((files : Files) (records : List Record) (known : Record) → D.files disk.old ≡ Some files → IsKept files self.old records
-            → ReadsAs text.now known → known.time ≡ time → ImagesKeep (D.images disk.new) (records ++ known ∷ [])) }
+        ensures settled { OnOk result ((files : Files) (records : List Record) (known : Record) → D.files disk.old ≡ Some files → HoldsRecords files self.old records
+            → ReadsAs text.now known → known.time ≡ time → ImagesHoldRecords (D.images disk.new) (records ++ known ∷ [])) }
 
         ensures calls { D.tick disk.new ≤ D.tick disk.old + 4 }
         ensures others { BothTold (ChangesOnly (segment_name Log 1)) (D.files disk.old) (D.files disk.new) }
@@ -148,7 +148,7 @@ impl MetaLog {
         room: u32,
     ) -> Result<Items<LogText>, LogFault>
         ensures past { IfOk result (λ texts. IsPast (D.files disk.old) self.now after room texts) }
-        ensures damaged { IfErr result (IfDamaged (λ _ _. Keeps (D.files disk.old) self.now → D.files disk.old ≡ None)) }
+        ensures damaged { IfErr result (IfDamaged (λ _ _. HoldsMetaLog (D.files disk.old) self.now → D.files disk.old ≡ None)) }
         ensures blamed { IfErr result (IfDamaged (λ file at. (file ≡ segment_name Log 1) × (at < gate_of self.now.log))) }
 
         // Whatever the file holds, what is read stands there behind what is passed over, and damage is named where no
@@ -194,8 +194,8 @@ impl MetaLog {
         room: u32,
     ) -> Result<(Items<LogText>, Place), LogFault>
         ensures next { IfOk result (λ read. AreNext (D.files disk.old) self.now place room read.0 read.1) }
-        ensures behind { IfOk result (λ read. KeepsPlace (D.files disk.old) self.now place → KeepsPlace (D.files disk.new) self.now read.1) }
-        ensures damaged { IfErr result (IfDamaged (λ _ _. KeepsPlace (D.files disk.old) self.now place → D.files disk.old ≡ None)) }
+        ensures behind { IfOk result (λ read. HoldsRecordPlace (D.files disk.old) self.now place → HoldsRecordPlace (D.files disk.new) self.now read.1) }
+        ensures damaged { IfErr result (IfDamaged (λ _ _. HoldsRecordPlace (D.files disk.old) self.now place → D.files disk.old ≡ None)) }
 
         // Whatever the file holds, what is read stands there, and damage is named where no item stands behind it.
         ensures reads { IfOk result (λ read. IfSome (D.files disk.old) (λ files.

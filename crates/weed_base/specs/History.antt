@@ -1,7 +1,7 @@
 -- The calls of a memory disk, the newest first: what reads give after them, and what a crash may leave.
 use Rattle.std.specs.Prelude.{◌≡◌, ℕ, ◌<◌, ◌≤◌, ◌⊎◌, List, [], ◌∷◌, length, replicate, ⊤, nat_lt, Bool, true, false, IsTrue, IsFalse, if◌then◌else◌}
 use Rattle.weed_base.specs.Files.{Files, written, cut_to, made, removed, renamed}
-use Rattle.weed_base.specs.Images.{Tears, Takes, where_there}
+use Rattle.weed_base.specs.Images.{Tears, Atomically, where_there}
 use Rattle.weed_base.specs.declared.mem.change.Call.{Call}
 use Rattle.weed_base.specs.declared.mem.change.Change.{Change}
 use Rattle.weed_base.specs.declared.mem.change.Change.TheVariants.{Written, Torn, Cut, Made, Removed, Renamed, Synced}
@@ -32,10 +32,10 @@ reads start (call ∷ past) = changed call.change (reads start past)
 abbrev pub Leaves : Change → Files → Files → Type 0
 Leaves (Written name at piece) = Tears name at (length piece)
 Leaves (Torn name at count) = Tears name at count
-Leaves (Cut name to) = Takes (where_there name (cut_to name to))
-Leaves (Made name) = Takes (made name)
-Leaves (Removed name) = Takes (removed name)
-Leaves (Renamed from to) = Takes (where_there from (renamed from to))
+Leaves (Cut name to) = Atomically (where_there name (cut_to name to))
+Leaves (Made name) = Atomically (made name)
+Leaves (Removed name) = Atomically (removed name)
+Leaves (Renamed from to) = Atomically (where_there from (renamed from to))
 Leaves Synced = λ old new. new ≡ old
 
 -- The images after a change: each comes from one before it, but after a sync there is what reads give.

@@ -40,8 +40,8 @@ abbrev pub Tears : List ℕ → ℕ → ℕ → Files → Files → Type 0
 Tears name at count old new = TearsThere name at count old (get old name) new
 
 -- A change of names, or a cut, stands as before or as after.
-abbrev pub Takes : (Files → Files) → Files → Files → Type 0
-Takes change old new = (new ≡ old) ⊎ (new ≡ change old)
+abbrev pub Atomically : (Files → Files) → Files → Files → Type 0
+Atomically change old new = (new ≡ old) ⊎ (new ≡ change old)
 
 -- The change where the file is there, and else none.
 abbrev pub where_there : List ℕ → (Files → Files) → Files → Files

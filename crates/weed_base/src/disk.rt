@@ -3,7 +3,7 @@ ghost use Rattle.std.specs.Option.{option_map};
 ghost use Rattle.std.specs.FinMap.{get, keys};
 ghost use Rattle.weed_base.specs.Told.{HasCause, HasWriteCause, IsCauseOf};
 ghost use Rattle.weed_base.specs.Files.{Files, IsWithin, IsThere, written, cut_to, made, removed, renamed, content, MayWrite, BothTold, Changes, ReadsAt, MayBeNamed};
-ghost use Rattle.weed_base.specs.Images.{NoMore, Only, Follows, Tears, Takes, where_there, Elapses};
+ghost use Rattle.weed_base.specs.Images.{NoMore, Only, Follows, Tears, Atomically, where_there, Elapses};
 ghost use Rattle.weed_base.specs.Sent.{Piece, Sends};
 ghost use Rattle.weed_base.specs.declared.disk.NamesFault.TheVariants.{Memory};
 
@@ -138,7 +138,7 @@ pub trait Disk {
     fn cut(&mut self, name: &FileName, to: u64) -> Result<(), Failed>
         requires { IfSome (files self.old) (IsWithin name.now to) }
         ensures files { Changes (cut_to name.now to) (files self.old) (files self.new) result }
-        ensures images { Follows (Takes (where_there name.now (cut_to name.now to))) (images self.old) (images self.new) }
+        ensures images { Follows (Atomically (where_there name.now (cut_to name.now to))) (images self.old) (images self.new) }
         ensures time { Elapses (tick self.old) (tick self.new) (image_since self.old) (image_since self.new) (images self.new) }
         ensures cause { HasCause (faults self.old) (faults self.new) result }
         ensures beside { beside self.new ≡ beside self.old }
@@ -148,7 +148,7 @@ pub trait Disk {
     fn make(&mut self, name: &FileName) -> Result<(), Failed>
         requires { MayBeNamed MARKS_ONLY name.now }
         ensures files { Changes (made name.now) (files self.old) (files self.new) result }
-        ensures images { Follows (Takes (made name.now)) (images self.old) (images self.new) }
+        ensures images { Follows (Atomically (made name.now)) (images self.old) (images self.new) }
         ensures time { Elapses (tick self.old) (tick self.new) (image_since self.old) (image_since self.new) (images self.new) }
         ensures cause { HasCause (faults self.old) (faults self.new) result }
         ensures beside { beside self.new ≡ beside self.old }
@@ -157,7 +157,7 @@ pub trait Disk {
     /// Removes the file, where it is there. After a failure it reads as before or as after.
     fn remove(&mut self, name: &FileName) -> Result<(), Failed>
         ensures files { Changes (removed name.now) (files self.old) (files self.new) result }
-        ensures images { Follows (Takes (removed name.now)) (images self.old) (images self.new) }
+        ensures images { Follows (Atomically (removed name.now)) (images self.old) (images self.new) }
         ensures time { Elapses (tick self.old) (tick self.new) (image_since self.old) (image_since self.new) (images self.new) }
         ensures cause { HasCause (faults self.old) (faults self.new) result }
         ensures beside { beside self.new ≡ beside self.old }
@@ -169,7 +169,7 @@ pub trait Disk {
         requires there { IfSome (files self.old) (IsThere from.now) }
         requires named { MayBeNamed MARKS_ONLY to.now }
         ensures files { Changes (renamed from.now to.now) (files self.old) (files self.new) result }
-        ensures images { Follows (Takes (where_there from.now (renamed from.now to.now))) (images self.old) (images self.new) }
+        ensures images { Follows (Atomically (where_there from.now (renamed from.now to.now))) (images self.old) (images self.new) }
         ensures time { Elapses (tick self.old) (tick self.new) (image_since self.old) (image_since self.new) (images self.new) }
         ensures cause { HasCause (faults self.old) (faults self.new) result }
         ensures beside { beside self.new ≡ beside self.old }

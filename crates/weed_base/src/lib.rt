@@ -16,8 +16,6 @@ mod path_fault;
 mod sender;
 mod sink;
 mod source;
-#[cfg(test)]
-mod trials;
 
 pub use bytes::{
     Bytes, LogText, LogTextKind, Mime, MimeKind, Name, NameKind, PlainKind, Text, Word, WordKind,

@@ -23,8 +23,3 @@ pub use sent::SentPiece;
 pub use sink::MemSink;
 pub use source::MemSource;
 pub use table::NamedBytes;
-
-#[cfg(test)]
-mod image_tests;
-#[cfg(test)]
-mod tests;

@@ -289,6 +289,3 @@ fn end_of_parts(bytes: &[u8], parts: usize) -> usize
     }
     bytes.len()
 }
-
-#[cfg(test)]
-mod tests;

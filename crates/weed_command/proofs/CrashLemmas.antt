@@ -20,7 +20,7 @@ use Rattle.weed_base.specs.Sent.{Piece, bytes_sent}
 use Rattle.weed_base.proofs.ImageLemmas.{leaves_both, leaves_weaker, leaves_nothing}
 use Rattle.name_core.specs.declared.change.Record.{Record}
 use Rattle.meta_log.specs.Kept.{IsRecordLog}
-use Rattle.meta_log.specs.Images.{ImagesKeep, AllNear, AreNear}
+use Rattle.meta_log.specs.Images.{ImagesHoldRecords, AllNear, AreNear}
 use Rattle.meta_log.proofs.RecordCrashes.{keeps_each}
 use Rattle.weed_command.specs.Handed.{IsSentAt, SendsAt}
 use Rattle.weed_command.specs.Settling.{IsOneOf, Settling, Tearing}
@@ -40,7 +40,7 @@ log_unique files one other kept also =
     ReadAs-unique kept.payloads one other kept.read (subst (λ payloads. ReadAs payloads other) (sym same) also.read)
 
 -- Images of one log are near, and so are those of two that are.
-settled_near : (images : Files → Type 0) (log : List Record) → ImagesKeep images log → AllNear images
+settled_near : (images : Files → Type 0) (log : List Record) → ImagesHoldRecords images log → AllNear images
 settled_near images log keep one other records others at also kept holds =
     inl (log_unique one records log kept (keeps_each images log keep one at) ∙ log_unique other log others (keeps_each images log keep other also) holds)
 
@@ -115,7 +115,7 @@ one_begins image log more before added after front grown (inr kept) =
     begins_so image log (more ++ added) after (grown ∙ ap (λ records. records ++ added) front ∙ append_assoc log more added) kept
 
 -- A step of the path keeps what it stands on, at a disk where the path has come to this log.
-pub record IsHeld {D : Type 0} (tick : D → ℕ) (since : D → ℕ → Files → Type 0) (sent : D → Option (List Piece)) (now : D) (log : List Record) (old new : State) : Type 0 where
+pub record HoldsPayloads {D : Type 0} (tick : D → ℕ) (since : D → ℕ → Files → Type 0) (sent : D → Option (List Piece)) (now : D) (log : List Record) (old new : State) : Type 0 where
   pub more : List Record
   pub front : log ≡ new.log ++ more
   pub early : (moment : ℕ) → IsSentAt (sent now) (length old.sent) moment → moment ≤ tick now
@@ -124,13 +124,13 @@ pub record IsHeld {D : Type 0} (tick : D → ℕ) (since : D → ℕ → Files �
 -- A session has come along this path.
 pub record Keeping {D : Type 0} (tick : D → ℕ) (images : D → Files → Type 0) (since : D → ℕ → Files → Type 0) (sent : D → Option (List Piece)) (start now : D) (first : State) (path : List State) : Type 0 where
   pub leaves : LeavesOnly tick since start now (λ image. (log : List Record) × IsRecordLog image log × IsPassed first path log)
-  pub settled : ImagesKeep (images now) (last_of first path).log
-  pub held : Steps (IsHeld tick since sent now (last_of first path).log) first path
+  pub settled : ImagesHoldRecords (images now) (last_of first path).log
+  pub held : Steps (HoldsPayloads tick since sent now (last_of first path).log) first path
 
 module _ {D : Type 0} (tick : D → ℕ) (images : D → Files → Type 0) (since : D → ℕ → Files → Type 0) (sent : D → Option (List Piece))
     (only_now : (disk : D) (image : Files) → since disk (tick disk) image → images disk image) where
   -- it begins so
-  pub keeping_begins : (start : D) (first : State) → ImagesKeep (images start) first.log → Keeping tick images since sent start start first []
+  pub keeping_begins : (start : D) (first : State) → ImagesHoldRecords (images start) first.log → Keeping tick images since sent start start first []
   keeping_begins start first keep = record {
     leaves = leaves_nothing tick since start (λ image. (log : List Record) × IsRecordLog image log × IsPassed first [] log);
     settled = keep;
@@ -140,7 +140,7 @@ module _ {D : Type 0} (tick : D → ℕ) (images : D → Files → Type 0) (sinc
   -- a step stays held by what comes after it
   held_on : (mid now : D) (log added later : List Record) → later ≡ log ++ added → LeavesOnly tick since mid now (IsOneOf log later)
       → ((image : Files) → images now image → IsOneOf log later image) → SendsAt (tick now) (sent mid) (sent now)
-      → (old new : State) → IsHeld tick since sent mid log old new → IsHeld tick since sent now later old new
+      → (old new : State) → HoldsPayloads tick since sent mid log old new → HoldsPayloads tick since sent now later old new
   held_on mid now log added later grown leaves present sends old new held =
       let either = λ (moment : ℕ) (at : IsSentAt (sent now) (length old.sent) moment). sent_either (sent mid) (sent now) (tick now) (length old.sent) moment sends at in
       let begins = λ (image : Files) (one : IsOneOf log later image). one_begins image new.log held.more log added later held.front grown one in
@@ -164,8 +164,8 @@ module _ {D : Type 0} (tick : D → ℕ) (images : D → Files → Type 0) (sinc
       }
 
   -- and so is one whose answer was sent once its log was settled
-  held_now : (mid now : D) (old new : State) → bytes_sent (sent mid) ≡ Some old.sent → SendsAt (tick now) (sent mid) (sent now) → ImagesKeep (images now) new.log
-      → IsHeld tick since sent now new.log old new
+  held_now : (mid now : D) (old new : State) → bytes_sent (sent mid) ≡ Some old.sent → SendsAt (tick now) (sent mid) (sent now) → ImagesHoldRecords (images now) new.log
+      → HoldsPayloads tick since sent now new.log old new
   held_now mid now old new told sends keep =
       let either = λ (moment : ℕ) (at : IsSentAt (sent now) (length old.sent) moment). sent_either (sent mid) (sent now) (tick now) (length old.sent) moment sends at in
       record {
@@ -206,9 +206,9 @@ module _ {D : Type 0} (tick : D → ℕ) (images : D → Files → Type 0) (sinc
 
     all_held : (log added : List Record) → log ≡ (last_of first path).log ++ added → LeavesOnly tick since mid now (IsOneOf (last_of first path).log log)
         → ((image : Files) → images now image → IsOneOf (last_of first path).log log image) → SendsAt (tick now) (sent mid) (sent now)
-        → Steps (IsHeld tick since sent now log) first path
+        → Steps (HoldsPayloads tick since sent now log) first path
     all_held log added grown leaves present sends =
-        steps_weaker (IsHeld tick since sent mid (last_of first path).log) (IsHeld tick since sent now log) first path
+        steps_weaker (HoldsPayloads tick since sent mid (last_of first path).log) (HoldsPayloads tick since sent now log) first path
         (held_on mid now (last_of first path).log added log grown leaves present sends) keeping.held
 
     -- a turn goes on along the path
@@ -223,14 +223,14 @@ module _ {D : Type 0} (tick : D → ℕ) (images : D → Files → Type 0) (sinc
         record {
           leaves = turn_leaves (IsPassed first (path ++ new ∷ [])) new.log (λ log passed. passed-push first path new log passed)
               (subst (λ (state : State). IsPassed first (path ++ new ∷ []) state.log) at_new (passed-last first (path ++ new ∷ []))) settles.leaves;
-          settled = subst (λ (state : State). ImagesKeep (images now) state.log) (sym at_new) settles.now;
-          held = subst (λ (state : State). Steps (IsHeld tick since sent now state.log) first (path ++ new ∷ [])) (sym at_new)
-              (steps-push (IsHeld tick since sent now new.log) first path new old_held new_held);
+          settled = subst (λ (state : State). ImagesHoldRecords (images now) state.log) (sym at_new) settles.now;
+          held = subst (λ (state : State). Steps (HoldsPayloads tick since sent now state.log) first (path ++ new ∷ [])) (sym at_new)
+              (steps-push (HoldsPayloads tick since sent now new.log) first path new old_held new_held);
         }
 
-    kept_steps : (log : List Record) → Steps (IsHeld tick since sent now log) first path → Steps (λ old new. KeepsFrom (since now) (sent now) (length old.sent) new.log) first path
+    kept_steps : (log : List Record) → Steps (HoldsPayloads tick since sent now log) first path → Steps (λ old new. KeepsFrom (since now) (sent now) (length old.sent) new.log) first path
     kept_steps log held =
-        steps_weaker (IsHeld tick since sent now log) (λ old new. KeepsFrom (since now) (sent now) (length old.sent) new.log) first path (λ old new one. one.keeps) held
+        steps_weaker (HoldsPayloads tick since sent now log) (λ old new. KeepsFrom (since now) (sent now) (length old.sent) new.log) first path (λ old new one. one.keeps) held
 
     -- a session ends with the log settled
     pub settled_ends : (end : Exit) (last : State) (added : List Record) → last.log ≡ (last_of first path).log ++ added → LeadsTo end (last_of first path) last last.log
@@ -273,7 +273,7 @@ module _ {D : Type 0} (tick : D → ℕ) (images : D → Files → Type 0) (sinc
         (λ image. (log : List Record) × IsRecordLog image log × IsOfRun exit.TurnsSpent first path (last_of first path) log)
         (λ image was. (was.0, was.1, inl was.2)) keeping.leaves;
     answers = record {
-      whole = steps_weaker (IsHeld tick since sent now (last_of first path).log) (λ old new. KeepsFrom (since now) (sent now) (length old.sent) new.log) first path (λ old new one. one.keeps) keeping.held;
+      whole = steps_weaker (HoldsPayloads tick since sent now (last_of first path).log) (λ old new. KeepsFrom (since now) (sent now) (length old.sent) new.log) first path (λ old new one. one.keeps) keeping.held;
       begun = λ _ moment image at left. absurd (unsent (sent now) (last_of first path).sent moment told at);
     };
     near = settled_near (images now) (last_of first path).log keeping.settled;
@@ -300,11 +300,11 @@ pub ends_after : {D : Type 0} (Here Cut : Type 0) → (Here → Cut) → (tick :
     → ((disk : D) (moment : ℕ) (image : Files) → moment ≤ tick disk → images disk image → since disk moment image)
     → (start mid now : D) (end : Exit) (first : State) (path : List State) (left bytes : Option (List ℕ)) (files : Option Files) (moments : Option (List ℕ)) (session : Session)
     → Turns first path → length path < most_turns
-    → (ImagesKeep (images start) first.log → Keeping tick images since sent start mid first path)
+    → (ImagesHoldRecords (images start) first.log → Keeping tick images since sent start mid first path)
     → bytes_sent (sent mid) ≡ Some (last_of first path).sent → SendsAt (tick now) (sent mid) (sent now)
     → Leads Here (last_of first path) (Settling tick images since mid now (last_of first path).log) (Tearing tick images since mid now (last_of first path).log) left bytes files moments session (Ended end)
     → (last : State) × Stands left bytes files moments last × Ends Cut end first path last
-    × (ImagesKeep (images start) first.log → Withstands tick images since sent start now end first path last)
+    × (ImagesHoldRecords (images start) first.log → Withstands tick images since sent start now end first path last)
 ends_after Here Cut cut tick images since sent only_now counts_now start mid now exit.Done first path left bytes files moments session turns few keeping told sends leads =
     let added = done_adds Here (last_of first path) leads.0 leads.2 in
     (leads.0, leads.1, (turns, few, leads.2), λ keep. settled_ends tick images since sent only_now start mid now first path (keeping keep) exit.Done leads.0 added.0 added.1 refl leads.3 sends told)

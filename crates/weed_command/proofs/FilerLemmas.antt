@@ -11,7 +11,7 @@ use Rattle.name_core.proofs.PlanLemmas.{fold-push}
 use Rattle.meta_log.specs.LogText.{segment_name, ChangesOnly}
 use Rattle.meta_log.specs.Records.{ReadsAs}
 use Rattle.meta_log.specs.Making.{LeavesOthers}
-use Rattle.meta_log.specs.Kept.{HoldsRecords, HoldsEitherLog, IsOpenedFrom}
+use Rattle.meta_log.specs.Kept.{TellsRecords, TellsEitherLog, IsOpenedFrom}
 use Rattle.meta_log.specs.declared.stem.Stem.TheVariants.{Log}
 use Rattle.weed_command.specs.NameTable.{names_of}
 use Rattle.weed_command.specs.Filer.{IsFiled, IsFiledFrom, HoldsFiler, Makes}
@@ -32,7 +32,7 @@ MakesAny plan told later old new result =
 -- After an append that failed the disk has the records, or one more.
 pub failed : (told later : Option Files) (old new : PlainFiler) (made : Record) (text : List ℕ)
     → BothTold (ChangesOnly (segment_name Log 1)) told later
-    → ((records : List Record) (known : Record) → HoldsRecords told old.log records → ReadsAs text known → known.time ≡ made.time → HoldsEitherLog later records known)
+    → ((records : List Record) (known : Record) → TellsRecords told old.log records → ReadsAs text known → known.time ≡ made.time → TellsEitherLog later records known)
     → ReadsAs text made → MakesAny (λ _. Recorded made) told later old new (Err fault.DiskFault)
 failed None later old new made text both either reads = tt
 failed (Some files) None old new made text both either reads = absurd both
@@ -41,7 +41,7 @@ failed (Some files) (Some more) old new made text both either reads = λ records
 -- After one that was done, the filer has one record more.
 pub recorded : (told later : Option Files) (old new : PlainFiler) (made : Record) (text : List ℕ)
     → BothTold (ChangesOnly (segment_name Log 1)) told later
-    → ((records : List Record) (known : Record) → HoldsRecords told old.log records → ReadsAs text known → known.time ≡ made.time → HoldsRecords later new.log (records ++ known ∷ []))
+    → ((records : List Record) (known : Record) → TellsRecords told old.log records → ReadsAs text known → known.time ≡ made.time → TellsRecords later new.log (records ++ known ∷ []))
     → ReadsAs text made → names_of new.names ≡ after_changes made.changes (names_of old.names)
     → MakesAny (λ _. Recorded made) told later old new (Ok tt)
 recorded None later old new made text both appended reads names = tt
@@ -57,7 +57,7 @@ recorded (Some files) (Some more) old new made text both appended reads names = 
 -- And where the disk isn't told, it holds that too.
 pub holds_more : (told later : Option Files) (old new : PlainFiler) (made : Record) (text : List ℕ)
     → BothTold (ChangesOnly (segment_name Log 1)) told later
-    → ((records : List Record) (known : Record) → HoldsRecords told old.log records → ReadsAs text known → known.time ≡ made.time → HoldsRecords later new.log (records ++ known ∷ []))
+    → ((records : List Record) (known : Record) → TellsRecords told old.log records → ReadsAs text known → known.time ≡ made.time → TellsRecords later new.log (records ++ known ∷ []))
     → ReadsAs text made → names_of new.names ≡ after_changes made.changes (names_of old.names)
     → (records : List Record) × HoldsFiler told old records → (records : List Record) × HoldsFiler later new records
 holds_more None None old new made text both appended reads names held = ([], tt)
@@ -67,7 +67,7 @@ holds_more (Some files) (Some more) old new made text both appended reads names 
     (held.0 ++ made ∷ [], (recorded (Some files) (Some more) old new made text both appended reads names held.0 held.1).1)
 
 -- The filer that it is with its names
-filed : (files : Files) (filer : PlainFiler) (records : List Record) → HoldsRecords (Some files) filer.log records → HoldsNames (Some files) filer.log filer.names → IsFiled files filer records
+filed : (files : Files) (filer : PlainFiler) (records : List Record) → TellsRecords (Some files) filer.log records → HoldsNames (Some files) filer.log filer.names → IsFiled files filer records
 filed files filer records log names = record { log = log; names = names records log }
 
 pub filed_from : (old new : Option Files) (filer : PlainFiler) → BothTold (LeavesOthers Log) old new → IsOpenedFrom old new filer.log → HoldsNames new filer.log filer.names

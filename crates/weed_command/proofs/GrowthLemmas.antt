@@ -5,7 +5,7 @@ use Rattle.weed_base.specs.Files.{Files, BothTold}
 use Rattle.name_core.specs.declared.change.Record.{Record}
 use Rattle.name_core.specs.RecordText.{record_text}
 use Rattle.meta_log.specs.LogText.{segment_name, ChangesOnly, IsLogText}
-use Rattle.meta_log.specs.Held.{HoldsText, HoldsEither}
+use Rattle.meta_log.specs.Held.{TellsText, TellsEither}
 use Rattle.meta_log.specs.Images.{IsMadeFrom}
 use Rattle.meta_log.specs.Making.{LeavesOthers}
 use Rattle.meta_log.specs.declared.stem.Stem.TheVariants.{Log}
@@ -62,7 +62,7 @@ grows_opened (Some old) (Some new) others made = record {
 
 -- A record was appended.
 pub grows_appended : (old new : Option Files) (made : Record) (text : List ℕ) → text ≡ record_text made → BothTold (ChangesOnly (segment_name Log 1)) old new
-    → ((payloads : List (List ℕ)) → HoldsText Log old payloads → HoldsText Log new (payloads ++ text ∷ [])) → BothTold GrowsByRecords old new
+    → ((payloads : List (List ℕ)) → TellsText Log old payloads → TellsText Log new (payloads ++ text ∷ [])) → BothTold GrowsByRecords old new
 grows_appended None None made text is only grown = tt
 grows_appended None (Some new) made text is only grown = absurd only
 grows_appended (Some old) None made text is only grown = absurd only
@@ -73,7 +73,7 @@ grows_appended (Some old) (Some new) made text is only grown = record {
 
 -- An append of one failed.
 pub grows_or_not : (old new : Option Files) (made : Record) (text : List ℕ) → text ≡ record_text made → BothTold (ChangesOnly (segment_name Log 1)) old new
-    → ((payloads : List (List ℕ)) → HoldsText Log old payloads → HoldsEither Log new payloads text) → BothTold GrowsByRecords old new
+    → ((payloads : List (List ℕ)) → TellsText Log old payloads → TellsEither Log new payloads text) → BothTold GrowsByRecords old new
 grows_or_not None None made text is only either = tt
 grows_or_not None (Some new) made text is only either = absurd only
 grows_or_not (Some old) None made text is only either = absurd only

@@ -14,8 +14,8 @@ use Rattle.meta_log.specs.Segment.{items}
 use Rattle.meta_log.specs.Left.{BreaksAt}
 use Rattle.meta_log.specs.Places.{place_behind, begins_at, ReadsFrom}
 use Rattle.meta_log.specs.Records.{ReadsAs, IsNoRecord, ReadAs}
-use Rattle.meta_log.specs.Kept.{IsKept, HoldsRecords, Keeps, front_of}
-use Rattle.meta_log.specs.RecordPlaces.{AreNext, KeepsPlace}
+use Rattle.meta_log.specs.Kept.{HoldsRecords, TellsRecords, HoldsMetaLog, front_of}
+use Rattle.meta_log.specs.RecordPlaces.{AreNext, HoldsRecordPlace}
 use Rattle.meta_log.specs.declared.front.Front.{Front}
 use Rattle.meta_log.specs.declared.meta_log.MetaLog.{MetaLog}
 use Rattle.meta_log.specs.declared.place.Place.{Place}
@@ -86,7 +86,7 @@ module _ (texts : List (List ℕ)) (i : ℕ) (item piece : List ℕ) (within : i
   takes_ends unread = subst AreUnreadable (sym all_texts) (unread_within (take i texts) piece (drop (i + 1) texts) unread)
 
 -- Files hold one list of records.
-records_unique : (files : Files) (log : MetaLog) (a b : List Record) → IsKept files log a → IsKept files log b → a ≡ b
+records_unique : (files : Files) (log : MetaLog) (a b : List Record) → HoldsRecords files log a → HoldsRecords files log b → a ≡ b
 records_unique files log a b one two =
     let allowed = IsAllowed log.log.stem in
     let same = text_unique allowed allowed log.log.stem files one.payloads two.payloads (inr one.held.segment) (inr two.held.segment) in
@@ -105,7 +105,7 @@ left_behind room others =
     omega (arith, whole, length-append (take room others) (drop room others))
 
 -- Before the first page nothing is taken.
-pub none_taken : (told : Option Files) (log : MetaLog) (names : NameTable) (place : Place) (left : ℕ) → (records : List Record) × HoldsRecords told log records
+pub none_taken : (told : Option Files) (log : MetaLog) (names : NameTable) (place : Place) (left : ℕ) → (records : List Record) × TellsRecords told log records
     → names_of names ≡ empty → place ≡ place_behind [] → left ≡ (front_of log).count → HoldsTaken told log names place left
 none_taken None log names place left held none begins count = tt
 none_taken (Some files) log names place left held none begins count =
@@ -118,7 +118,7 @@ none_taken (Some files) log names place left held none begins count =
     }
 
 -- What is taken keeps its place.
-pub taken_keeps : (told : Option Files) (log : MetaLog) (names : NameTable) (place : Place) (left : ℕ) → HoldsTaken told log names place left → KeepsPlace told log place
+pub taken_keeps : (told : Option Files) (log : MetaLog) (names : NameTable) (place : Place) (left : ℕ) → HoldsTaken told log names place left → HoldsRecordPlace told log place
 taken_keeps None log names place left taken = ([], [], tt)
 taken_keeps (Some files) log names place left taken = (taken.taken, taken.others, taken.lies)
 
@@ -150,7 +150,7 @@ all_taken (Some files) log names place left none taken = λ records kept.
     let whole : taken.taken ++ taken.others ≡ taken.taken = ap (λ (l : List Record). taken.taken ++ l) nothing ∙ append-nil taken.taken in
     taken.names_are ∙ ap fold (sym whole ∙ records_unique files log (taken.taken ++ taken.others) records taken.lies.kept kept)
 
-pub all_names : (told : Option Files) (log : MetaLog) (names : NameTable) (place : Place) (left : ℕ) → left ≡ 0 → (Keeps told log → HoldsTaken told log names place left) → HoldsNames told log names
+pub all_names : (told : Option Files) (log : MetaLog) (names : NameTable) (place : Place) (left : ℕ) → left ≡ 0 → (HoldsMetaLog told log → HoldsTaken told log names place left) → HoldsNames told log names
 all_names None log names place left none taken = tt
 all_names (Some files) log names place left none taken = λ records kept. all_taken (Some files) log names place left none (taken (records, kept)) records kept
 

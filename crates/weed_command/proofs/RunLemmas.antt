@@ -6,7 +6,7 @@ use Rattle.name_core.specs.declared.change.Record.{Record}
 use Rattle.meta_log.specs.Images.{IsMadeFrom}
 use Rattle.meta_log.specs.LogText.{NoneFrom}
 use Rattle.meta_log.specs.declared.stem.Stem.TheVariants.{Log}
-use Rattle.meta_log.specs.Kept.{IsRecordLog, HoldsRecordLog, IsRecordDamage}
+use Rattle.meta_log.specs.Kept.{IsRecordLog, TellsRecordLog, IsRecordDamage}
 use Rattle.meta_log.proofs.Damage.{no_record_damage}
 use Rattle.weed_command.specs.Inbox.{left_of}
 use Rattle.weed_command.specs.Filer.{IsFiledFrom, TellsFiler}
@@ -57,7 +57,7 @@ begun_tells left sent sent' old new clock session first starts begins same = rec
   moments_are = starts.stands.moments_are;
 }
 
-still_log : (R : Files → Files → Type 0) (old new : Option Files) (log : List Record) → BothTold R old new → (HoldsRecordLog old log → HoldsRecordLog new log)
+still_log : (R : Files → Files → Type 0) (old new : Option Files) (log : List Record) → BothTold R old new → (TellsRecordLog old log → TellsRecordLog new log)
     → IsSomeAnd old (λ told. IsRecordLog told log) → IsSomeAnd new (λ told. IsRecordLog told log)
 still_log R None new log both kept there = absurd there
 still_log R (Some files) None log both kept there = absurd both
@@ -65,7 +65,7 @@ still_log R (Some files) (Some files') log both kept there = kept there
 
 -- What ended before its session leaves what it started from.
 pub early_stands : (R : Files → Files → Type 0) (left sent sent' : Option (List ℕ)) (old new : Option Files) (clock : Option (List ℕ)) (first : State)
-    → Starts left sent old clock first → BothTold R old new → ((records : List Record) → HoldsRecordLog old records → HoldsRecordLog new records) → sent' ≡ sent
+    → Starts left sent old clock first → BothTold R old new → ((records : List Record) → TellsRecordLog old records → TellsRecordLog new records) → sent' ≡ sent
     → Stands left sent' new clock first
 early_stands R left sent sent' old new clock first starts both kept same = record {
   left_is = starts.stands.left_is;

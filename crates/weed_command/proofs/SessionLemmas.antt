@@ -9,7 +9,7 @@ use Rattle.name_core.specs.declared.change.Record.{Record}
 use Rattle.meta_log.specs.declared.meta_log.MetaLog.{MetaLog}
 use Rattle.meta_log.specs.declared.stem.Stem.{Stem}
 use Rattle.meta_log.specs.LogText.{IsAllowed, HasSegment}
-use Rattle.meta_log.specs.Kept.{IsKept, IsRecordLog}
+use Rattle.meta_log.specs.Kept.{HoldsRecords, IsRecordLog}
 use Rattle.weed_command.specs.Inbox.{left_of, IsNoRequest, FindsHead}
 use Rattle.weed_command.specs.Written.{WritesAll}
 use Rattle.weed_command.specs.declared.inbox.Head.{Head}
@@ -34,7 +34,7 @@ pub open_is_no_end : (end : Exit) → ¬ (Open ≡ Ended end)
 open_is_no_end end same = cc
 
 -- A disk that holds a filer is a log of its records.
-kept_is_log : (files : Files) (meta : MetaLog) (records : List Record) → IsKept files meta records → IsRecordLog files records
+kept_is_log : (files : Files) (meta : MetaLog) (records : List Record) → HoldsRecords files meta records → IsRecordLog files records
 kept_is_log files meta records kept = record {
   payloads = kept.payloads;
   text = inr (subst (λ (stem : Stem). HasSegment (IsAllowed stem) stem files kept.payloads) meta.is_log kept.held.segment);

@@ -5,11 +5,11 @@ use Rattle.weed_base.specs.Images.{NoMore, LeavesOnly, StandsStill}
 use Rattle.weed_base.proofs.ImageLemmas.{leaves_both, leaves_nothing, leaves_still}
 use Rattle.name_core.specs.declared.change.Record.{Record}
 use Rattle.meta_log.specs.Kept.{IsEitherLog}
-use Rattle.meta_log.specs.Images.{ImagesKeep}
+use Rattle.meta_log.specs.Images.{ImagesHoldRecords}
 use Rattle.weed_command.specs.Settling.{IsOneOf, Settling, Tearing}
 
 -- Fewer images keep what more of them keep.
-pub keeps_fewer : (images fewer : Files → Type 0) (records : List Record) → ImagesKeep images records → NoMore images fewer → ImagesKeep fewer records
+pub keeps_fewer : (images fewer : Files → Type 0) (records : List Record) → ImagesHoldRecords images records → NoMore images fewer → ImagesHoldRecords fewer records
 keeps_fewer images fewer records keep none = record {
   payloads = keep.payloads;
   texts = λ image left. keep.texts image (none image left);
@@ -38,7 +38,7 @@ module _ {D : Type 0} (tick : D → ℕ) (images : D → Files → Type 0) (sinc
 
   -- a record was appended
   pub settles_appended : (old new : D) (log : List Record) (known : Record)
-      → (ImagesKeep (images old) log → LeavesOnly tick since old new (IsEitherLog log known)) → ImagesKeep (images new) (log ++ known ∷ [])
+      → (ImagesHoldRecords (images old) log → LeavesOnly tick since old new (IsEitherLog log known)) → ImagesHoldRecords (images new) (log ++ known ∷ [])
       → Settling tick images since old new log (log ++ known ∷ [])
   settles_appended old new log known atomic settled keep = record { leaves = atomic keep; now = settled }
 

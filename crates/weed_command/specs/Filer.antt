@@ -4,7 +4,7 @@ use Rattle.weed_base.specs.Files.{Files}
 use Rattle.name_core.specs.declared.change.Record.{Record}
 use Rattle.name_core.specs.Log.{fold}
 use Rattle.name_core.specs.Plan.{Planned, Recorded, Nothing, Refused}
-use Rattle.meta_log.specs.Kept.{IsKept, IsRecordLog}
+use Rattle.meta_log.specs.Kept.{HoldsRecords, IsRecordLog}
 use Rattle.meta_log.specs.declared.meta_log.MetaLog.{MetaLog}
 use Rattle.weed_command.specs.NameTable.{names_of}
 use Rattle.weed_command.specs.Settling.{IsOneOf}
@@ -18,7 +18,7 @@ log_of filer = filer.log
 
 -- The files hold the filer with these records, and its names are their fold.
 pub record IsFiled (files : Files) (filer : PlainFiler) (records : List Record) : Type 0 where
-  pub log : IsKept files filer.log records
+  pub log : HoldsRecords files filer.log records
   pub names : names_of filer.names ≡ fold records
 
 -- The disk, where told, holds the filer with these records.

@@ -7,7 +7,7 @@ use Rattle.name_core.specs.Log.{changes_of, fold}
 use Rattle.meta_log.specs.Segment.{items}
 use Rattle.meta_log.specs.Left.{StandFrom, NoItemAt}
 use Rattle.meta_log.specs.Records.{ReadAs}
-use Rattle.meta_log.specs.Kept.{IsKept}
+use Rattle.meta_log.specs.Kept.{HoldsRecords}
 use Rattle.meta_log.specs.RecordPlaces.{LiesBetween}
 use Rattle.meta_log.specs.declared.meta_log.MetaLog.{MetaLog}
 use Rattle.meta_log.specs.declared.place.Place.{Place}
@@ -42,7 +42,7 @@ HoldsTaken told log names place left = IfSome told (λ files. IsTaken files log 
 
 -- Where it is told, all records are taken.
 abbrev pub HoldsNames : Option Files → MetaLog → NameTable → Type 0
-HoldsNames told log names = IfSome told (λ files. (records : List Record) → IsKept files log records → names_of names ≡ fold records)
+HoldsNames told log names = IfSome told (λ files. (records : List Record) → HoldsRecords files log records → names_of names ≡ fold records)
 
 -- From one place of any bytes up to another stand texts, each before the gate, that were taken into names; of those
 -- that were to be taken so many are left.

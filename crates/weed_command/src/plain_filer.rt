@@ -59,8 +59,8 @@ impl PlainFiler {
     ghost use Rattle.meta_log.specs.Making.{LeavesOthers};
     ghost use Rattle.meta_log.specs.declared.stem.Stem.TheVariants.{Log};
     ghost use Rattle.weed_base.specs.DiskCalls.{Acts};
-    ghost use Rattle.meta_log.specs.Images.{HasLogOf, ImagesKeep, IsMadeFrom, IsOwn};
-    ghost use Rattle.meta_log.specs.Kept.{front_of, HoldsRecordLog, IsRecordDamage, IsRecordLog};
+    ghost use Rattle.meta_log.specs.Images.{HasLogOf, ImagesHoldRecords, IsMadeFrom, IsOwn};
+    ghost use Rattle.meta_log.specs.Kept.{front_of, TellsRecordLog, IsRecordDamage, IsRecordLog};
     ghost use Rattle.meta_log.specs.Records.{ReadsAs};
     ghost use Rattle.weed_command.specs.Filer.{IsFiled, IsFiledFrom, HoldsFiler, Makes, MakesImages, log_of};
     ghost use Rattle.weed_command.specs.Settling.{Settling, Tearing};
@@ -81,7 +81,7 @@ impl PlainFiler {
         ensures blamed { IfErr result (IfDamaged (λ file _. IsBlamable Log file)) }
 
         // Whatever comes of it, the records that the disk holds stay.
-        ensures kept { (records : List Record) → HoldsRecordLog (D.files disk.old) records → HoldsRecordLog (D.files disk.new) records }
+        ensures kept { (records : List Record) → TellsRecordLog (D.files disk.old) records → TellsRecordLog (D.files disk.new) records }
 
         // Where any segment counts, nothing is changed, whatever is answered.
         ensures made { BothTold (IsMadeFrom Log) (D.files disk.old) (D.files disk.new) }
@@ -91,7 +91,7 @@ impl PlainFiler {
         // the disk has. A disk of one's own is never damaged.
         ensures atomic { (files : Files) → D.files disk.old ≡ Some files → Acts D.Disk disk.old disk.new (HasLogOf (D.images disk.old)) }
         ensures settled { IfOk result (λ _. (files : Files) (records : List Record) → D.files disk.old ≡ Some files
-            → IsRecordLog files records → ImagesKeep (D.images disk.new) records) }
+            → IsRecordLog files records → ImagesHoldRecords (D.images disk.new) records) }
         ensures own { (files : Files) → D.files disk.old ≡ Some files → IsOwn (D.images disk.old) → IfErr result (IfDamaged (λ _ _. ⊥)) }
 
         ensures cause { IsCauseOf (D.faults disk.old) (D.faults disk.new) (IsErrOf result LogFault.DiskFault) }

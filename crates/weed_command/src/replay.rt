@@ -7,7 +7,7 @@ ghost use Rattle.name_core.specs.declared.change.Record.{Record};
 ghost use Rattle.name_core.specs.RecordText.{CanBeWritten};
 ghost use Rattle.meta_log.specs.Faults.{IfDamaged};
 ghost use Rattle.meta_log.specs.Held.{gate_of};
-ghost use Rattle.meta_log.specs.Kept.{Keeps, front_of};
+ghost use Rattle.meta_log.specs.Kept.{HoldsMetaLog, front_of};
 ghost use Rattle.meta_log.specs.Places.{begins_at};
 ghost use Rattle.meta_log.specs.Records.{ReadsAs, IsRecord, IsNoRecord};
 ghost use Rattle.meta_log.specs.LogText.{segment_name};
@@ -35,7 +35,7 @@ struct Rest {
 pub fn replay<D: Disk>(alloc: Global, disk: &mut D, log: &MetaLog) -> Result<NameTable, LogFault>
     ensures names { IfOk result (HoldsNames (D.files disk.new) log.now) }
     ensures all { IfOk result (λ names. TakesMany (front_of log.now).count empty (names_of names)) }
-    ensures damaged { IfErr result (IfDamaged (λ _ _. Keeps (D.files disk.old) log.now → D.files disk.old ≡ None)) }
+    ensures damaged { IfErr result (IfDamaged (λ _ _. HoldsMetaLog (D.files disk.old) log.now → D.files disk.old ≡ None)) }
     ensures blamed { IfErr result (IfDamaged (λ file _. file ≡ segment_name Log 1)) }
 
     // Whatever the file holds, what is taken stands there from its start on, and damage is named as it is met behind it.

@@ -4,8 +4,8 @@ ghost use Rattle.weed_base.specs.Sent.{bytes_sent};
 ghost use Rattle.weed_base.specs.Files.{Files, BothTold};
 ghost use Rattle.weed_base.specs.Images.{LeavesOnly, OnlyReads};
 ghost use Rattle.name_core.specs.declared.change.Record.{Record};
-ghost use Rattle.meta_log.specs.Images.{HasLogOf, ImagesKeep, IsMadeFrom, IsOwn};
-ghost use Rattle.meta_log.specs.Kept.{HoldsRecordLog, IsRecordDamage, IsRecordLog};
+ghost use Rattle.meta_log.specs.Images.{HasLogOf, ImagesHoldRecords, IsMadeFrom, IsOwn};
+ghost use Rattle.meta_log.specs.Kept.{TellsRecordLog, IsRecordDamage, IsRecordLog};
 ghost use Rattle.meta_log.specs.LogText.{IsBlamable};
 ghost use Rattle.meta_log.specs.Making.{LeavesOthers};
 ghost use Rattle.meta_log.specs.declared.stem.Stem.TheVariants.{Log};
@@ -157,12 +157,12 @@ fn begin<H: Host>(alloc: Global, dir: &[u8], host: &mut H) -> Result<Session, Ex
     ensures early { IfErr result IsEarly }
     ensures damaged { IfErr result (IfDamagedExit
         (λ file at. IfSome (H.files host.old) (λ files. IsRecordDamage files file at) × (H.files host.new ≡ H.files host.old))) }
-    ensures kept { (records : List Record) → HoldsRecordLog (H.files host.old) records → HoldsRecordLog (H.files host.new) records }
+    ensures kept { (records : List Record) → TellsRecordLog (H.files host.old) records → TellsRecordLog (H.files host.new) records }
     ensures made { BothTold (IsMadeFrom Log) (H.files host.old) (H.files host.new) }
     ensures others { BothTold (LeavesOthers Log) (H.files host.old) (H.files host.new) }
     ensures atomic { (files : Files) → H.files host.old ≡ Some files → LeavesOnly H.tick H.image_since host.old host.new (HasLogOf (H.images host.old)) }
     ensures settled { IfOk result (λ _. (files : Files) (records : List Record) → H.files host.old ≡ Some files
-        → IsRecordLog files records → ImagesKeep (H.images host.new) records) }
+        → IsRecordLog files records → ImagesHoldRecords (H.images host.new) records) }
     ensures own { (files : Files) → H.files host.old ≡ Some files → IsOwn (H.images host.old) → IfErr result (IfDamagedExit (λ _ _. ⊥)) }
     ensures blamed { IfErr result (IfDamagedExit (λ file _. IsBlamable Log file)) }
     ensures cause { IsCauseOf (H.faults host.old) (H.faults host.new) (IsErrOf result Exit.DiskFault) }

@@ -4,7 +4,7 @@ ghost use Rattle.weed_base.specs.Files.{BothTold};
 ghost use Rattle.weed_base.specs.Images.{StandsStill};
 ghost use Rattle.weed_base.specs.Sent.{bytes_sent};
 ghost use Rattle.name_core.specs.declared.change.Record.{Record};
-ghost use Rattle.meta_log.specs.Images.{ImagesKeep};
+ghost use Rattle.meta_log.specs.Images.{ImagesHoldRecords};
 ghost use Rattle.weed_command.specs.Growth.{GrowsByRecords};
 ghost use Rattle.weed_command.specs.Causes.{IsCauseBeside};
 ghost use Rattle.weed_command.specs.Crash.{Withstands};
@@ -73,7 +73,7 @@ pub fn run<S: Source, H: Host, C: Clock>(
         → (path : List State) × (last : State)
         × Stands (S.left world.new.source) (bytes_sent (H.sent world.new.host)) (H.files world.new.host) (C.moments world.new.clock) last
         × Ends (Rose (H.send_faults world.old.host) (H.send_faults world.new.host)) result first path last
-        × (ImagesKeep (H.images world.old.host) first.log
+        × (ImagesHoldRecords (H.images world.old.host) first.log
         → Withstands H.tick H.images H.image_since H.sent world.old.host world.new.host result first path last) }
     ensures disk { IsCauseOf (H.faults world.old.host) (H.faults world.new.host) (result ≡ Exit.DiskFault) }
     ensures read { IsCauseOf (S.faults world.old.source) (S.faults world.new.source) (result ≡ Exit.ReadFault) }

@@ -5,7 +5,7 @@ ghost use Rattle.std.proofs.lemmas.Bool.{false≢true};
 ghost use Rattle.weed_base.specs.Told.{HasCause, IsCauseOf};
 ghost use Rattle.weed_base.specs.Calls.{called, fails_next};
 ghost use Rattle.weed_base.specs.Files.{IsWithin, IsThere, written, cut_to, made, removed, renamed, content, MayWrite, Changes, ReadsAt};
-ghost use Rattle.weed_base.specs.Images.{NoMore, Only, Follows, Tears, Takes, where_there, Elapses};
+ghost use Rattle.weed_base.specs.Images.{NoMore, Only, Follows, Tears, Atomically, where_there, Elapses};
 ghost use Rattle.weed_base.specs.History.{picked, earlier};
 ghost use Rattle.weed_base.specs.MemForms.{IsDiskCall, Makes, WritesOrTears, disk_of, present, images, images_since};
 ghost use Rattle.weed_base.specs.NamedBytes.{files_from};
@@ -292,7 +292,7 @@ impl Disk for MemDisk {
         ensures call { IsDiskCall self.old self.new result }
         ensures makes { Makes (Change.Cut name.now to) self.old self.new result }
         ensures files { Changes (cut_to name.now to) (Some (present self.old)) (Some (present self.new)) result }
-        ensures images { Follows (Takes (where_there name.now (cut_to name.now to))) (images self.old) (images self.new) }
+        ensures images { Follows (Atomically (where_there name.now (cut_to name.now to))) (images self.old) (images self.new) }
         ensures time { Elapses self.old.calls.made self.new.calls.made (images_since self.old) (images_since self.new) (images self.new) }
         ensures cause { HasCause self.old.calls.faults self.new.calls.faults result }
         ensures spent { self.old.calls.made ≡ 2 ^ 64 - 1 → IsErr result }
@@ -305,7 +305,7 @@ impl Disk for MemDisk {
         ensures call { IsDiskCall self.old self.new result }
         ensures makes { Makes (Change.Made name.now) self.old self.new result }
         ensures files { Changes (made name.now) (Some (present self.old)) (Some (present self.new)) result }
-        ensures images { Follows (Takes (made name.now)) (images self.old) (images self.new) }
+        ensures images { Follows (Atomically (made name.now)) (images self.old) (images self.new) }
         ensures time { Elapses self.old.calls.made self.new.calls.made (images_since self.old) (images_since self.new) (images self.new) }
         ensures cause { HasCause self.old.calls.faults self.new.calls.faults result }
         ensures spent { self.old.calls.made ≡ 2 ^ 64 - 1 → IsErr result }
@@ -318,7 +318,7 @@ impl Disk for MemDisk {
         ensures call { IsDiskCall self.old self.new result }
         ensures makes { Makes (Change.Removed name.now) self.old self.new result }
         ensures files { Changes (removed name.now) (Some (present self.old)) (Some (present self.new)) result }
-        ensures images { Follows (Takes (removed name.now)) (images self.old) (images self.new) }
+        ensures images { Follows (Atomically (removed name.now)) (images self.old) (images self.new) }
         ensures time { Elapses self.old.calls.made self.new.calls.made (images_since self.old) (images_since self.new) (images self.new) }
         ensures cause { HasCause self.old.calls.faults self.new.calls.faults result }
         ensures spent { self.old.calls.made ≡ 2 ^ 64 - 1 → IsErr result }
@@ -332,7 +332,7 @@ impl Disk for MemDisk {
         ensures call { IsDiskCall self.old self.new result }
         ensures makes { Makes (Change.Renamed from.now to.now) self.old self.new result }
         ensures files { Changes (renamed from.now to.now) (Some (present self.old)) (Some (present self.new)) result }
-        ensures images { Follows (Takes (where_there from.now (renamed from.now to.now))) (images self.old) (images self.new) }
+        ensures images { Follows (Atomically (where_there from.now (renamed from.now to.now))) (images self.old) (images self.new) }
         ensures time { Elapses self.old.calls.made self.new.calls.made (images_since self.old) (images_since self.new) (images self.new) }
         ensures cause { HasCause self.old.calls.faults self.new.calls.faults result }
         ensures spent { self.old.calls.made ≡ 2 ^ 64 - 1 → IsErr result }

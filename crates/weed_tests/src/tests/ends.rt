@@ -12,12 +12,38 @@ fn each_end_has_its_status_and_line(rt: HostRuntime) -> Result<(), Fail> {
     let file = FileName::new(b"log.00000001").ok_or("no name")?;
     let damaged = Exit::Damaged { file, at: 0 };
     check(&rt, is_told(alloc, &Exit::Done, 0, b""));
-    check(&rt, is_told(alloc, &Exit::BadWords { place: 1 }, 1, b"weed: bad word 1\n"));
-    check(&rt, is_told(alloc, &Exit::DiskFault, 2, b"weed: disk fault\n"));
-    check(&rt, is_told(alloc, &damaged, 3, b"weed: damaged log.00000001 at 0\n"));
-    check(&rt, is_told(alloc, &Exit::ReadFault, 5, b"weed: read fault\n"));
-    check(&rt, is_told(alloc, &Exit::WriteFault, 6, b"weed: write fault\n"));
-    check(&rt, is_told(alloc, &Exit::Memory, 7, b"weed: out of memory\n"));
-    check(&rt, is_told(alloc, &Exit::TurnsSpent, 15, b"weed: turns spent\n"));
+    check(
+        &rt,
+        is_told(
+            alloc,
+            &Exit::BadWords { place: 1 },
+            1,
+            b"weed: bad word 1\n",
+        ),
+    );
+    check(
+        &rt,
+        is_told(alloc, &Exit::DiskFault, 2, b"weed: disk fault\n"),
+    );
+    check(
+        &rt,
+        is_told(alloc, &damaged, 3, b"weed: damaged log.00000001 at 0\n"),
+    );
+    check(
+        &rt,
+        is_told(alloc, &Exit::ReadFault, 5, b"weed: read fault\n"),
+    );
+    check(
+        &rt,
+        is_told(alloc, &Exit::WriteFault, 6, b"weed: write fault\n"),
+    );
+    check(
+        &rt,
+        is_told(alloc, &Exit::Memory, 7, b"weed: out of memory\n"),
+    );
+    check(
+        &rt,
+        is_told(alloc, &Exit::TurnsSpent, 15, b"weed: turns spent\n"),
+    );
     Ok(())
 }

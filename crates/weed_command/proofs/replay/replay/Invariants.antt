@@ -4,7 +4,7 @@ use Rattle.std.specs.FinMap.{empty}
 use Rattle.weed_base.specs.Files.{content}
 use Rattle.weed_base.specs.Images.{OnlyReads}
 use Rattle.meta_log.specs.Held.{gate_of}
-use Rattle.meta_log.specs.Kept.{Keeps, front_of}
+use Rattle.meta_log.specs.Kept.{HoldsMetaLog, front_of}
 use Rattle.meta_log.specs.LogText.{segment_name}
 use Rattle.meta_log.specs.declared.stem.Stem.TheVariants.{Log}
 use Rattle.weed_command.specs.NameTable.{names_of}
@@ -16,7 +16,7 @@ invariant-loop-rest g l =
     let disk = g.D.Disk in
     record {
       files : disk.files l.disk ≡ disk.files l.fn.disk;
-      taken : Keeps (disk.files l.fn.disk) l.log → HoldsTaken (disk.files l.fn.disk) l.log l.names l.rest.place l.rest.count;
+      taken : HoldsMetaLog (disk.files l.fn.disk) l.log → HoldsTaken (disk.files l.fn.disk) l.log l.names l.rest.place l.rest.count;
       takes : IfSome (disk.files l.fn.disk) (λ files.
           TakesFrom (content files (segment_name Log 1)) (gate_of l.log.log) 0 l.rest.place.at (front_of l.log).count l.rest.count empty (names_of l.names));
       all : TakesMany ((front_of l.log).count - l.rest.count) empty (names_of l.names);

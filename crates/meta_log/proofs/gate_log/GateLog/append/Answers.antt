@@ -3,7 +3,7 @@ use Rattle.std.proofs.lemmas.Result.{err_from_is_err_and}
 use Rattle.std.specs.Prelude.{IfSome}
 use Rattle.weed_base.specs.Files.{IsWithin, BothTold}
 use Rattle.meta_log.specs.LogText.{ChangesOnly}
-use Rattle.meta_log.specs.Held.{HoldsLog}
+use Rattle.meta_log.specs.Held.{TellsPayloads}
 use Rattle.meta_log.proofs.Appends.{first_failed, first_done, last_failed, last_done, ready_within, others_twice}
 use Rattle.meta_log.proofs.Crashes.{first_leaves, both_leave, settled_holds}
 use Rattle.meta_log.proofs.gate_log.GateLog.append.Goals as goal
@@ -66,7 +66,7 @@ returns-in_err-write_settled-2-clause-atomic g c files payloads is held hold =
     let log = c.args.self.now in
     let text = c.args.text.now in
     let prepared = first_done (g.D.Disk.files c.args.disk.now) (g.D.Disk.files c.write_settled.new.disk) (g.D.Disk.files c.args.disk.now) log text _ _ c.first_segment-segment.ensures c.ready-behind.ensures.bytes
-    c.in_ok-write_settled.ensures.files payloads (subst (λ o. HoldsLog o log payloads) (sym is) held) in
+    c.in_ok-write_settled.ensures.files payloads (subst (λ o. TellsPayloads o log payloads) (sym is) held) in
     both_leave g.D.Disk.tick g.D.Disk.image_since g.D.Disk.images log payloads text _ _ c.first_segment-segment.ensures held.gate
     (g.D.Disk.files c.write_settled.new.disk) c.args.disk.now c.write_settled.new.disk c.write_settled-2.new.disk c.ready-behind.ensures.short c.requires.suits hold
     c.write_settled.ensures.atomic prepared c.in_ok-write_settled.ensures.settled c.write_settled-2.ensures.atomic
@@ -76,12 +76,12 @@ returns-clause-atomic g c files payloads is held hold =
     let log = c.args.self.now in
     let text = c.args.text.now in
     let prepared = first_done (g.D.Disk.files c.args.disk.now) (g.D.Disk.files c.write_settled.new.disk) (g.D.Disk.files c.args.disk.now) log text _ _ c.first_segment-segment.ensures c.ready-behind.ensures.bytes
-    c.in_ok-write_settled.ensures.files payloads (subst (λ o. HoldsLog o log payloads) (sym is) held) in
+    c.in_ok-write_settled.ensures.files payloads (subst (λ o. TellsPayloads o log payloads) (sym is) held) in
     both_leave g.D.Disk.tick g.D.Disk.image_since g.D.Disk.images log payloads text _ _ c.first_segment-segment.ensures held.gate
     (g.D.Disk.files c.write_settled.new.disk) c.args.disk.now c.write_settled.new.disk c.write_settled-2.new.disk c.ready-behind.ensures.short c.requires.suits hold
     c.write_settled.ensures.atomic prepared c.in_ok-write_settled.ensures.settled c.write_settled-2.ensures.atomic
 
 pub returns-clause-settled : goal.returns-clause-settled
 returns-clause-settled g c files payloads is held =
-    let holds = returns-clause-appended g c payloads (subst (λ o. HoldsLog o c.args.self.now payloads) (sym is) held) in
+    let holds = returns-clause-appended g c payloads (subst (λ o. TellsPayloads o c.args.self.now payloads) (sym is) held) in
     settled_holds (g.D.Disk.files c.write_settled-2.new.disk) (g.D.Disk.images c.write_settled-2.new.disk) c.args.self.now _ (payloads ++ c.args.text.now ∷ []) refl c.in_ok-write_settled-2.ensures.settled holds

@@ -8,7 +8,7 @@ use Rattle.meta_log.specs.LogText.{segment_name}
 use Rattle.meta_log.specs.declared.stem.Stem.{Stem}
 use Rattle.meta_log.specs.Left.{BreaksAt}
 use Rattle.meta_log.specs.Places.{HoldsPlace, IsNext, begins_at, ReadsFrom}
-use Rattle.meta_log.specs.RecordPlaces.{AreNext, KeepsPlace}
+use Rattle.meta_log.specs.RecordPlaces.{AreNext, HoldsRecordPlace}
 use Rattle.meta_log.proofs.RecordPlaces.{told_next_records, told_behind_records, keeps_holds}
 use Rattle.meta_log.proofs.Faulted.{IfErr-weaker}
 use Rattle.meta_log.proofs.meta_log.MetaLog.read_from.Goals as goal
@@ -25,7 +25,7 @@ pub returns-clause-behind : goal.returns-clause-behind
 returns-clause-behind g c =
     let files = g.D.Disk.files c.args.disk.now in
     let meta = c.args.self.now in
-    IfOk-weaker c.read_from.result (λ read. IsNext files meta.log c.args.place c.args.room read.0 read.1) (λ read. KeepsPlace files meta c.args.place → KeepsPlace (g.D.Disk.files c.read_from.new.disk) meta read.1)
+    IfOk-weaker c.read_from.result (λ read. IsNext files meta.log c.args.place c.args.room read.0 read.1) (λ read. HoldsRecordPlace files meta c.args.place → HoldsRecordPlace (g.D.Disk.files c.read_from.new.disk) meta read.1)
     (λ read is keeps. told_behind_records files (g.D.Disk.files c.read_from.new.disk) meta c.args.place read.1 c.args.room read.0 c.read_from.ensures.looks.files keeps is)
     c.read_from.ensures.next
 
@@ -36,7 +36,7 @@ pub returns-clause-damaged : goal.returns-clause-damaged
 returns-clause-damaged g c =
     let files = g.D.Disk.files c.args.disk.now in
     let meta = c.args.self.now in
-    IfErr-weaker (λ _ _. HoldsPlace files meta.log c.args.place → files ≡ None) (λ _ _. KeepsPlace files meta c.args.place → files ≡ None) c.read_from.result
+    IfErr-weaker (λ _ _. HoldsPlace files meta.log c.args.place → files ≡ None) (λ _ _. HoldsRecordPlace files meta c.args.place → files ≡ None) c.read_from.result
     (λ file at undamaged keeps. undamaged (keeps_holds files meta c.args.place keeps)) c.read_from.ensures.damaged
 
 pub returns-clause-reads : goal.returns-clause-reads

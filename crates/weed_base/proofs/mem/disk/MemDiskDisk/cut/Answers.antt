@@ -1,6 +1,6 @@
 use Rattle.std.proofs.Common.{inl, refl}
 use Rattle.weed_base.specs.Files.{cut_to}
-use Rattle.weed_base.specs.Images.{Takes, where_there}
+use Rattle.weed_base.specs.Images.{Atomically, where_there}
 use Rattle.weed_base.specs.declared.mem.change.Change.TheVariants.{Cut}
 use Rattle.weed_base.proofs.DiskCallLemmas.{images-made}
 use Rattle.weed_base.proofs.mem.disk.MemDiskDisk.cut.Goals as goal
@@ -9,4 +9,4 @@ pub returns-clause-images : goal.returns-clause-images
 returns-clause-images c =
     let name = c.args.name.now in
     let makes = rw c.copy-name.ensures at c.change.ensures.makes in
-    images-made (Cut name c.args.to) (Takes (where_there name (cut_to name c.args.to))) c.args.self.now c.change.new.self c.change.result c.change.ensures.call.start makes (λ _ left. left) (λ _. inl refl)
+    images-made (Cut name c.args.to) (Atomically (where_there name (cut_to name c.args.to))) c.args.self.now c.change.new.self c.change.result c.change.ensures.call.start makes (λ _ left. left) (λ _. inl refl)
