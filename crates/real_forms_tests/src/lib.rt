@@ -1,0 +1,5 @@
+//! Calls of the real forms.
+#![tactic(auto)]
+
+#[cfg(test)]
+mod tests;
