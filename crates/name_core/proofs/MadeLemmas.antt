@@ -3,17 +3,17 @@ use Rattle.std.proofs.Common.{◌≡◌, ℕ, Bool, true, false, cond, List, [],
 use Rattle.std.specs.Prelude.{All, is_none}
 use Rattle.std.specs.FinMap.{get, insert}
 use Rattle.std.proofs.lemmas.List.Elements.{All-nil, All-cons}
-use Rattle.name_core.specs.declared.entry.Entry.{Entry}
-use Rattle.name_core.specs.declared.entry.Kind.{Kind}
-use Rattle.name_core.specs.declared.entry.Kind.TheVariants.{Directory, File}
+use Rattle.entry.specs.declared.entry.Entry.{Entry}
+use Rattle.entry.specs.declared.entry.Kind.{Kind}
+use Rattle.entry.specs.declared.entry.Kind.TheVariants.{Directory, File}
 use Rattle.name_core.specs.declared.change.Change.{Change}
 use Rattle.name_core.specs.declared.change.Record.{Record}
 use Rattle.name_core.specs.declared.command.Command.TheVariants.{MakeDir}
 use Rattle.name_core.specs.declared.command.Refusal.TheVariants.{ClockAtEnd}
-use Rattle.name_core.specs.Entry.{is_file_kind, new_directory}
+use Rattle.entry.specs.Entry.{is_file_kind}
+use Rattle.name_core.specs.Plan.{new_directory, prefixes, is_file, first_file, missing, puts, unless_file, record_time, Recorded, Nothing, Refused, planned, plan_of}
 use Rattle.name_core.specs.Namespace.{Namespace, after_changes, IsDirectoryIn}
 use Rattle.name_core.specs.Log.{end_of_time, after_record}
-use Rattle.name_core.specs.Plan.{prefixes, is_file, first_file, missing, puts, unless_file, record_time, Recorded, Nothing, Refused, planned, plan_of}
 use Rattle.name_core.proofs.Paths.{get-insert_same}
 use Rattle.name_core.proofs.NamespaceLemmas.{IsDirectoryIn-found, IsDirectoryIn-insert}
 use Rattle.name_core.proofs.PlanLemmas.{Makes, planned_makes}

@@ -4,8 +4,8 @@ use Rattle.std.specs.Prelude.{IsSome, IsSomeAnd}
 use Rattle.std.specs.FinMap.{get, insert, empty, get-empty}
 use Rattle.std.proofs.lemmas.Bool.{false≢true}
 use Rattle.weed_base.specs.PathOrder.{path_cmp}
-use Rattle.name_core.specs.declared.entry.Entry.{Entry}
-use Rattle.name_core.specs.declared.entry.Kind.TheVariants.{Directory}
+use Rattle.entry.specs.declared.entry.Entry.{Entry}
+use Rattle.entry.specs.declared.entry.Kind.TheVariants.{Directory}
 use Rattle.name_core.specs.declared.change.Change.{Change}
 use Rattle.name_core.specs.Namespace.{Namespace, step, after_changes, IsDirectoryIn, IsWellFormed, KeepsWellFormed}
 use Rattle.name_core.proofs.Paths.{cases_path, get-insert_same, get-insert_other, filled-append, parent_is}

@@ -3,7 +3,7 @@ use Rattle.std.proofs.Common.{◌≡◌, ◌≢◌, ℕ, ◌<◌, cond, List, []
 use Rattle.std.specs.FinMap.{get, insert, get-insert}
 pub use Rattle.weed_base.specs.PathOrder.{same_path, path_cmp_total, path_cmp-IsAntisymmetric, same_path-exact}
 pub use Rattle.weed_base.proofs.PathOrderLemmas.{same_path-refl, cases_path}
-use Rattle.name_core.specs.declared.entry.Entry.{Entry}
+use Rattle.entry.specs.declared.entry.Entry.{Entry}
 use Rattle.name_core.specs.Namespace.{Namespace}
 
 -- A path set is found, and no other path changes.

@@ -4,19 +4,19 @@ use Rattle.std.specs.Prelude.{All, is_none}
 use Rattle.std.specs.FinMap.{get, insert, empty}
 use Rattle.std.proofs.lemmas.Bool.{eqb-false, false≢true}
 use Rattle.std.proofs.lemmas.List.Elements.{All-nil, All-cons, All-append, All-filter, All-map}
-use Rattle.name_core.specs.declared.entry.Entry.{Entry}
-use Rattle.name_core.specs.declared.entry.Kind.{Kind}
-use Rattle.name_core.specs.declared.entry.Kind.TheVariants.{Directory, File}
+use Rattle.entry.specs.declared.entry.Entry.{Entry}
+use Rattle.entry.specs.declared.entry.Kind.{Kind}
+use Rattle.entry.specs.declared.entry.Kind.TheVariants.{Directory, File}
 use Rattle.name_core.specs.declared.change.Change.{Change}
 use Rattle.name_core.specs.declared.change.Change.TheVariants.{Put}
 use Rattle.name_core.specs.declared.change.Record.{Record}
 use Rattle.name_core.specs.declared.command.Command.{Command}
 use Rattle.name_core.specs.declared.command.Command.TheVariants.{MakeDir}
 use Rattle.name_core.specs.declared.command.Refusal.TheVariants.{ClockAtEnd}
-use Rattle.name_core.specs.Entry.{is_file_kind, new_directory}
+use Rattle.entry.specs.Entry.{is_file_kind}
+use Rattle.name_core.specs.Plan.{new_directory, prefixes_from, prefixes, is_file, first_file, missing, puts, unless_file, record_time, Recorded, Refused, recorded, planned, plan_of}
 use Rattle.name_core.specs.Namespace.{Namespace, path_of, AreRootless, after_changes, IsDirectoryIn, IsWellFormed, KeepsWellFormed}
 use Rattle.name_core.specs.Log.{end_of_time, changes_of, after_record, fold, last_time_from, last_time, TimesRise, IsSound}
-use Rattle.name_core.specs.Plan.{prefixes_from, prefixes, is_file, first_file, missing, puts, unless_file, record_time, Recorded, Refused, recorded, planned, plan_of}
 use Rattle.name_core.proofs.Paths.{filled-append, get-insert_other, get-insert_same, longer_is_other, longer_than_top}
 use Rattle.name_core.proofs.NamespaceLemmas.{IsDirectoryIn-found, IsWellFormed-insert, IsWellFormed-empty, KeepsWellFormed-append, IsWellFormed-after, after_changes-append}
 

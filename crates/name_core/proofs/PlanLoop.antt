@@ -7,14 +7,14 @@ use Rattle.std.proofs.lemmas.List.{take-append-drop, length-take-le}
 use Rattle.std.proofs.lemmas.List.Elements.{All-nil, All-push}
 use Rattle.weed_base.specs.Path.{IsPath}
 use Rattle.weed_base.proofs.PathLemmas.{IsPath-front}
-use Rattle.name_core.specs.declared.entry.Entry.{Entry}
+use Rattle.entry.specs.declared.entry.Entry.{Entry}
 use Rattle.name_core.specs.declared.change.Change.{Change}
 use Rattle.name_core.specs.declared.change.Change.TheVariants.{Put}
 use Rattle.name_core.specs.declared.command.Refusal.{Refusal}
 use Rattle.name_core.specs.declared.command.Refusal.TheVariants.{IsFile}
-use Rattle.name_core.specs.Entry.{is_file_kind, new_directory}
+use Rattle.entry.specs.Entry.{is_file_kind}
+use Rattle.name_core.specs.Plan.{new_directory, prefixes_from, prefixes, is_file, first_file, missing, puts, unless_file, directories_at, IsNewDirectory}
 use Rattle.name_core.specs.Namespace.{Namespace}
-use Rattle.name_core.specs.Plan.{prefixes_from, prefixes, is_file, first_file, missing, puts, unless_file, directories_at, IsNewDirectory}
 
 -- Changes in front of further ones
 abbrev pub with_front : List Change → Result (List Change) Refusal → Result (List Change) Refusal

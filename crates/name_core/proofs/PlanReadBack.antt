@@ -6,11 +6,12 @@ use Rattle.name_core.specs.declared.change.Change.{Change}
 use Rattle.name_core.specs.declared.change.Change.TheVariants.{Put, Drop}
 use Rattle.name_core.specs.declared.change.Record.{Record}
 use Rattle.name_core.specs.declared.command.PlanFault.{PlanFault}
-use Rattle.name_core.specs.Entry.{IsValid, new_directory}
+use Rattle.entry.specs.Entry.{IsValid}
+use Rattle.name_core.specs.Plan.{new_directory, record_time, recorded, Recorded, Plans, IsNewDirectory, MakesDirectories}
 use Rattle.name_core.specs.Namespace.{path_of}
 use Rattle.name_core.specs.Log.{end_of_time}
-use Rattle.name_core.specs.Plan.{record_time, recorded, Recorded, Plans, IsNewDirectory, MakesDirectories}
-use Rattle.name_core.specs.Readable.{FitTypes, FitsTypes, PutsDirectory}
+use Rattle.entry.specs.AttributesText.{FitTypes}
+use Rattle.name_core.specs.Readable.{FitsTypes, PutsDirectory}
 use Rattle.name_core.specs.RecordReading.{record_of}
 use Rattle.name_core.specs.RecordText.{HasValidEntry, CanBeWritten, record_text}
 use Rattle.name_core.proofs.PlanLemmas.{Makes, recorded_makes, record_time_rises}

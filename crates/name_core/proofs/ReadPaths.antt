@@ -16,7 +16,7 @@ use Rattle.weed_base.proofs.PathLemmas.{parts_in-text_of, text_of-push, IsPath-f
 use Rattle.weed_base.proofs.PathFaultLemmas.{none_found, no_text_fault, read_complete, read_sound, join_sound}
 use Rattle.name_core.specs.declared.change.Change.{Change}
 use Rattle.name_core.specs.declared.change.Change.TheVariants.{Put}
-use Rattle.name_core.specs.declared.entry.Entry.{Entry}
+use Rattle.entry.specs.declared.entry.Entry.{Entry}
 use Rattle.name_core.specs.declared.parts.EntryParts.{EntryParts}
 use Rattle.name_core.specs.declared.parts.EventParts.{EventParts}
 use Rattle.name_core.specs.RecordText.{directory_of, name_of}

@@ -20,9 +20,9 @@ use Rattle.name_core.specs.declared.record_fault.RecordFault.{RecordFault}
 use Rattle.name_core.specs.declared.record_fault.RecordFault.TheVariants as faults
 use Rattle.name_core.specs.Namespace.{path_of}
 use Rattle.name_core.specs.Log.{end_of_time}
-use Rattle.name_core.specs.Messages.{AttributesText}
+use Rattle.entry.specs.AttributesText.{AttributesText, are_good}
 use Rattle.name_core.specs.RecordText.{HasValidEntry, CanBeWritten}
-use Rattle.name_core.specs.RecordReading.{are_good, is_entry, entry_of, path_read, path_with, path_in, directory_put, directory_of_new, stays, if_stays, change_of, event_at, change_at, each_change_at, all_of, or_wire, changes_in, record_with, record_from, record_of, ReadsRecord}
+use Rattle.name_core.specs.RecordReading.{is_entry, entry_of, path_read, path_with, path_in, directory_put, directory_of_new, stays, if_stays, change_of, event_at, change_at, each_change_at, all_of, or_wire, changes_in, record_with, record_from, record_of, ReadsRecord}
 use Rattle.name_core.proofs.Paths.{filled-append}
 
 -- A change that a record may have

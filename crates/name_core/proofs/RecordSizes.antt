@@ -9,9 +9,9 @@ use Rattle.name_core.specs.declared.change.Change.{Change}
 use Rattle.name_core.specs.declared.change.Change.TheVariants.{Put, Drop}
 use Rattle.name_core.specs.declared.change.Record.{Record}
 use Rattle.name_core.specs.declared.command.PlanFault.{PlanFault}
-use Rattle.name_core.specs.Entry.{seconds, new_directory}
-use Rattle.name_core.specs.Plan.{recorded, Plans, IsNewDirectory, MakesDirectories}
-use Rattle.name_core.specs.RecordText.{attributes_text, entry_text, directory_of, name_of, notification_text, change_text, record_text}
+use Rattle.name_core.specs.Plan.{seconds, new_directory, recorded, Plans, IsNewDirectory, MakesDirectories}
+use Rattle.entry.specs.AttributesText.{attributes_text}
+use Rattle.name_core.specs.RecordText.{entry_text, directory_of, name_of, notification_text, change_text, record_text}
 use Rattle.name_core.proofs.PathTexts.{HasShortParts, short_parts}
 use Rattle.name_core.proofs.PlanLemmas.{recorded_makes}
 

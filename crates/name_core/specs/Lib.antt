@@ -1,5 +1,4 @@
 pub mod Faults
-pub mod Entry
 pub mod Namespace
 pub mod Log
 pub mod Plan

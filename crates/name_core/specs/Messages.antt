@@ -5,32 +5,6 @@ use Rattle.std.specs.List.{last_or}
 use Rattle.proto_wire.specs.Field.{FieldText}
 use Rattle.proto_wire.specs.Taken.{text_in, last_number, last_text, last_message}
 
--- FuseAttributes.
-pub record AttributesText : Type 0 where
-  pub file_size : ℕ
-  pub mtime : ℕ
-  pub mode : ℕ
-  pub uid : ℕ
-  pub gid : ℕ
-  pub crtime : ℕ
-  pub mime : List ℕ
-  pub ttl_sec : ℕ
-  pub md5 : List ℕ
-
--- What these fields give as attributes.
-abbrev pub attributes_in : List FieldText → AttributesText
-attributes_in fields = record {
-  file_size = last_number 1 fields;
-  mtime = last_number 2 fields;
-  mode = last_number 3 fields;
-  uid = last_number 4 fields;
-  gid = last_number 5 fields;
-  crtime = last_number 6 fields;
-  mime = last_text 7 fields;
-  ttl_sec = last_number 10 fields;
-  md5 = last_text 14 fields;
-}
-
 -- Entry's own fields. A missing attributes message is an empty one.
 pub record EntryFieldsText : Type 0 where
   pub name : List ℕ

@@ -4,8 +4,8 @@ use Rattle.std.specs.List.{starts_with}
 use Rattle.std.specs.Str.{bytes_eq}
 use Rattle.std.specs.FinMap.{FinMap, get, insert, retain_keys}
 use Rattle.weed_base.specs.PathOrder.{path_cmp}
-use Rattle.name_core.specs.declared.entry.Entry.{Entry}
-use Rattle.name_core.specs.declared.entry.Kind.TheVariants.{Directory}
+use Rattle.entry.specs.declared.entry.Entry.{Entry}
+use Rattle.entry.specs.declared.entry.Kind.TheVariants.{Directory}
 use Rattle.name_core.specs.declared.change.Change.{Change}
 use Rattle.name_core.specs.declared.change.Change.TheVariants.{Put, Drop}
 

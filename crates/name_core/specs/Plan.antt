@@ -1,7 +1,7 @@
 -- Plans: the record that a command makes of a namespace, if any.
-use Rattle.std.specs.Prelude.{◌≡◌, ◌≢◌, ℕ, ◌+◌, ◌≤◌, max, min, Bool, false, List, [], ◌∷◌, ◌++◌, length, All, map, filter, find, Option, None, Some, is_none, Result, Ok, Err, ◌==◌, if◌then◌else◌}
+use Rattle.std.specs.Prelude.{◌≡◌, ◌≢◌, ℕ, ◌+◌, ◌/◌, ◌≤◌, max, min, Bool, false, List, [], ◌∷◌, ◌++◌, length, All, map, filter, find, Option, None, Some, is_none, Result, Ok, Err, ◌==◌, if◌then◌else◌}
 use Rattle.std.specs.FinMap.{get}
-use Rattle.name_core.specs.declared.entry.Entry.{Entry}
+use Rattle.entry.specs.declared.entry.Entry.{Entry}
 use Rattle.name_core.specs.declared.change.Change.{Change}
 use Rattle.name_core.specs.declared.change.Change.TheVariants.{Put, Drop}
 use Rattle.name_core.specs.declared.change.Record.{Record}
@@ -12,9 +12,31 @@ use Rattle.name_core.specs.declared.command.Refusal.TheVariants.{IsFile, ClockAt
 use Rattle.name_core.specs.declared.command.PlanFault.{PlanFault}
 use Rattle.name_core.specs.declared.command.PlanFault.TheVariants as faults
 use Rattle.weed_base.specs.Path.{IsPath}
-use Rattle.name_core.specs.Entry.{is_file_kind, new_directory}
+use Rattle.entry.specs.Entry.{is_file_kind}
 use Rattle.name_core.specs.Namespace.{Namespace}
 use Rattle.name_core.specs.Log.{end_of_time}
+use Rattle.entry.specs.declared.entry.Kind.TheVariants.{Directory}
+
+-- The seconds of a moment in nanoseconds.
+abbrev pub seconds : ℕ → ℕ
+seconds moment = moment / 1000000000
+
+-- The directory that a command makes at a moment: mode 493, which is octal 755.
+abbrev pub new_directory : ℕ → Entry
+new_directory moment = record {
+  kind = Directory;
+  attributes = record {
+    file_size = 0;
+    mtime = seconds moment;
+    mode = 493;
+    uid = 0;
+    gid = 0;
+    crtime = seconds moment;
+    mime = [];
+    ttl_sec = 0;
+    md5 = None;
+  };
+}
 
 -- A path with each front of further parts behind it, the shortest first.
 abbrev pub prefixes_from : List (List ℕ) → List (List ℕ) → List (List (List ℕ))

@@ -1,16 +1,15 @@
 -- How a text is read as a record. Of a message its own fields are read first, then the messages that it takes, in the
 -- order of the bytes and each in the same way: so a wire fault comes before anything else.
-use Rattle.std.specs.Prelude.{◌≡◌, ℕ, ◌^◌, List, [], ◌∷◌, ◌++◌, length, Option, None, Some, is_none, ok_or, IsSome, option_map, option_and_then, Result, Ok, Err, Bool, true, false, not, nat_lt, nat_le, bytes_eq, ◌==◌, ◌&&◌, ◌||◌, if◌then◌else◌}
+use Rattle.std.specs.Prelude.{◌≡◌, ℕ, List, [], ◌∷◌, ◌++◌, length, Option, None, Some, is_none, ok_or, IsSome, option_map, option_and_then, Result, Ok, Err, Bool, true, false, not, nat_le, bytes_eq, ◌==◌, ◌&&◌, if◌then◌else◌}
 use Rattle.std.specs.declared.alloc.AllocError.{AllocError}
 use Rattle.weed_base.specs.Path.{parts_in, text_of}
 use Rattle.weed_base.specs.PathFaults.{read_fault, join_fault}
 use Rattle.proto_wire.specs.declared.fault.WireFault.{WireFault}
 use Rattle.proto_wire.specs.Field.{◌>>=◌, FieldText, fields_of}
 use Rattle.proto_wire.specs.Taken.{last_number, messages_at}
-use Rattle.name_core.specs.declared.entry.Attributes.{Attributes}
-use Rattle.name_core.specs.declared.entry.Entry.{Entry}
-use Rattle.name_core.specs.declared.entry.Kind.{Kind}
-use Rattle.name_core.specs.declared.entry.Kind.TheVariants.{Directory, File}
+use Rattle.entry.specs.declared.entry.Entry.{Entry}
+use Rattle.entry.specs.declared.entry.Kind.{Kind}
+use Rattle.entry.specs.declared.entry.Kind.TheVariants.{Directory, File}
 use Rattle.name_core.specs.declared.change.Change.{Change}
 use Rattle.name_core.specs.declared.change.Change.TheVariants.{Put}
 use Rattle.name_core.specs.declared.change.Record.{Record}
@@ -21,9 +20,10 @@ use Rattle.name_core.specs.declared.parts.EntriesParts.{EntriesParts}
 use Rattle.name_core.specs.declared.parts.EventParts.{EventParts}
 use Rattle.name_core.specs.declared.record_fault.RecordFault.{RecordFault}
 use Rattle.name_core.specs.declared.record_fault.RecordFault.TheVariants as faults
-use Rattle.name_core.specs.Messages.{AttributesText, attributes_in, entry_fields_in, notification_in, event_fields_in}
+use Rattle.name_core.specs.Messages.{entry_fields_in, notification_in, event_fields_in}
 use Rattle.name_core.specs.Namespace.{path_of}
 use Rattle.name_core.specs.Log.{end_of_time}
+use Rattle.entry.specs.AttributesText.{attributes_in, are_good, attributes_of}
 
 -- ---- The messages that are taken, one in the other
 
@@ -63,12 +63,6 @@ event_at text = do
 
 -- ---- What they mean, where they mean anything
 
--- The values fit their types and keep to an entry's limits.
-abbrev pub are_good : AttributesText → Bool
-are_good a =
-    nat_lt a.mode (2 ^ 32) && nat_lt a.uid (2 ^ 32) && nat_lt a.gid (2 ^ 32) && nat_lt a.ttl_sec (2 ^ 32)
-    && nat_le a.file_size 274877906944 && nat_le (length a.mime) 255 && ((length a.md5 == 0) || (length a.md5 == 16))
-
 -- A kind by its number: 0 is a file.
 abbrev pub kind_of : ℕ → Kind
 kind_of is_directory = if is_directory == 0 then File else Directory
@@ -76,20 +70,6 @@ kind_of is_directory = if is_directory == 0 then File else Directory
 -- The parts mean an entry: their values are good, and, until files are read, there is no chunk.
 abbrev pub is_entry : EntryParts → Bool
 is_entry entry = not entry.fields.has_chunks && are_good entry.attributes
-
--- The attributes of their fields. An empty digest is none.
-abbrev pub attributes_of : AttributesText → Attributes
-attributes_of a = record {
-  file_size = a.file_size;
-  mtime = a.mtime;
-  mode = a.mode;
-  uid = a.uid;
-  gid = a.gid;
-  crtime = a.crtime;
-  mime = a.mime;
-  ttl_sec = a.ttl_sec;
-  md5 = if length a.md5 == 0 then None else Some a.md5;
-}
 
 -- The entry of its parts.
 abbrev pub entry_of : EntryParts → Entry

@@ -3,24 +3,16 @@ use Rattle.std.specs.Prelude.{◌≢◌, ℕ, ◌≤◌, List, [], ◌++◌, All
 use Rattle.std.specs.List.{last_or}
 use Rattle.weed_base.specs.Path.{text_of, parent_of}
 use Rattle.proto_wire.specs.Text.{varint_field, bytes_field, message_field}
-use Rattle.name_core.specs.declared.entry.Attributes.{Attributes}
-use Rattle.name_core.specs.declared.entry.Entry.{Entry}
-use Rattle.name_core.specs.declared.entry.Kind.{Kind}
-use Rattle.name_core.specs.declared.entry.Kind.TheVariants.{Directory, File}
+use Rattle.entry.specs.declared.entry.Entry.{Entry}
+use Rattle.entry.specs.declared.entry.Kind.{Kind}
+use Rattle.entry.specs.declared.entry.Kind.TheVariants.{Directory, File}
 use Rattle.name_core.specs.declared.change.Change.{Change}
 use Rattle.name_core.specs.declared.change.Change.TheVariants.{Put, Drop}
 use Rattle.name_core.specs.declared.change.Record.{Record}
-use Rattle.name_core.specs.Entry.{IsValid}
+use Rattle.entry.specs.Entry.{IsValid}
 use Rattle.name_core.specs.Namespace.{path_of, AreRootless}
 use Rattle.name_core.specs.Log.{end_of_time}
-
--- FuseAttributes.
-abbrev pub attributes_text : Attributes → List ℕ
-attributes_text attributes =
-    varint_field 1 attributes.file_size ++ varint_field 2 attributes.mtime ++ varint_field 3 attributes.mode
-    ++ varint_field 4 attributes.uid ++ varint_field 5 attributes.gid ++ varint_field 6 attributes.crtime
-    ++ bytes_field 7 attributes.mime ++ varint_field 10 attributes.ttl_sec
-    ++ bytes_field 14 (unwrap_or attributes.md5 [])
+use Rattle.entry.specs.AttributesText.{attributes_text}
 
 -- The truth value `is_directory`.
 abbrev pub directory_bit : Kind → ℕ

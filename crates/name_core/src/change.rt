@@ -1,6 +1,6 @@
 ghost use Rattle.std.specs.Prelude.{◌≡◌};
 
-use crate::entry::Entry;
+use entry::Entry;
 use weed_base::{Items, Path};
 
 /// The last time that a record may have.

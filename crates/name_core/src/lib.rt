@@ -3,9 +3,9 @@
 
 mod change;
 mod command;
-mod entry;
 mod found;
 mod laws;
+mod made;
 mod meaning;
 mod messages;
 mod names;
@@ -18,7 +18,6 @@ mod record_text;
 
 pub use change::{Change, Record, RecordChanges};
 pub use command::{Command, PlanFault, Refusal};
-pub use entry::{Attributes, Entry, Kind};
 pub use laws::{
     made_directories_are_there, plans_keep_logs_sound, plans_keep_names_well_formed,
     plans_keep_times_rising, written_records_are_read,

@@ -1,18 +1,15 @@
 //! What the messages of an event mean: a change, where they mean anything.
 ghost use Rattle.std.specs.Prelude.{◌≡◌, ◌≢◌, ◌==◌, ◌||◌, ◌^◌, if◌then◌else◌, ℕ, List, IfOk, IsErr, IsTrue, length, nat_lt, Some, None, MatchResult};
 ghost use Rattle.name_core.specs.declared.change.Change.TheVariants.{Put};
-ghost use Rattle.name_core.specs.declared.entry.Entry.{Entry};
-ghost use Rattle.name_core.specs.RecordReading.{are_good, attributes_of, change_of, directory_of_new, directory_put, entry_of, is_entry, path_in, stays, FindsMeant};
+ghost use Rattle.entry.specs.declared.entry.Entry.{Entry};
+ghost use Rattle.entry.specs.AttributesText.{are_good};
+ghost use Rattle.name_core.specs.RecordReading.{change_of, directory_of_new, directory_put, entry_of, is_entry, path_in, stays, FindsMeant};
 
 use crate::change::Change;
-use crate::entry::{Attributes, Entry, Kind, MAX_FILE_SIZE, MAX_MIME};
-use crate::messages::AttributesFields;
 use crate::parts::{EntryParts, EventParts};
+use entry::{Entry, Kind, good_attributes, have_good_values};
 use std::alloc::{AllocError, Global};
-use weed_base::{Mime, Path, PathFault};
-
-/// The length of a digest in bytes.
-const DIGEST: usize = 16;
+use weed_base::{Path, PathFault};
 
 /// The change of an event; `None` where it means nothing. Takes memory only where it means a change.
 pub fn change_in(alloc: Global, event: &EventParts) -> Result<Option<Change>, AllocError>
@@ -94,25 +91,6 @@ fn is_valid(entry: &EntryParts) -> bool
     !entry.fields.has_chunks && have_good_values(&entry.attributes)
 }
 
-/// The values fit their types, and keep to the limits of an entry.
-fn have_good_values(attributes: &AttributesFields) -> bool
-    ensures { result ≡ are_good attributes.now }
-{
-    fits_32(attributes.mode)
-        && fits_32(attributes.uid)
-        && fits_32(attributes.gid)
-        && fits_32(attributes.ttl_sec)
-        && attributes.file_size <= MAX_FILE_SIZE
-        && attributes.mime.len() <= MAX_MIME
-        && (attributes.md5.is_empty() || attributes.md5.len() == DIGEST)
-}
-
-fn fits_32(value: u64) -> bool
-    ensures { result ≡ nat_lt value (2 ^ 32) }
-{
-    value <= u64::from(u32::MAX)
-}
-
 fn valid_entry(alloc: Global, entry: &EntryParts) -> Result<Entry, AllocError>
     requires { IsTrue (are_good entry.now.attributes) }
     ensures { IfOk result (λ made. made ≡ entry_of entry.now) }
@@ -126,34 +104,4 @@ fn valid_entry(alloc: Global, entry: &EntryParts) -> Result<Entry, AllocError>
         kind,
         attributes: good_attributes(alloc, &entry.attributes)?,
     })
-}
-
-fn good_attributes(alloc: Global, fields: &AttributesFields) -> Result<Attributes, AllocError>
-    requires { IsTrue (are_good fields.now) }
-    ensures { IfOk result (λ made. made ≡ attributes_of fields.now) }
-{
-    Ok(Attributes {
-        file_size: fields.file_size,
-        mtime: fields.mtime,
-        mode: fields.mode as u32,
-        uid: fields.uid as u32,
-        gid: fields.gid as u32,
-        crtime: fields.crtime,
-        mime: Mime::new(alloc, fields.mime)?,
-        ttl_sec: fields.ttl_sec as u32,
-        md5: digest_of(fields.md5),
-    })
-}
-
-/// The digest of these bytes, none where there are none.
-fn digest_of(bytes: &[u8]) -> Option<[u8; DIGEST]>
-    requires { IsTrue ((length bytes.now == 0) || (length bytes.now == 16)) }
-    ensures { result ≡ (if length bytes.now == 0 then None else Some bytes.now) }
-{
-    if bytes.is_empty() {
-        return None;
-    }
-    let mut digest = [0; DIGEST];
-    digest.copy_from_slice(bytes);
-    Some(digest)
 }

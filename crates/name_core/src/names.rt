@@ -1,11 +1,11 @@
 ghost use Rattle.std.specs.Prelude.{◌≡◌, [], ℕ, Option, IfOk, IfSome, IsNone, IsErrOf};
 ghost use Rattle.std.specs.FinMap.{get};
 ghost use Rattle.weed_base.specs.Told.{IsCauseOf};
-ghost use Rattle.name_core.specs.Entry.{IsValid};
+ghost use Rattle.entry.specs.Entry.{IsValid};
 ghost use Rattle.name_core.specs.Namespace.{Namespace};
 ghost use Rattle.name_core.specs.declared.names.KeeperFault.TheVariants.{Memory};
 
-use crate::entry::Entry;
+use entry::Entry;
 use std::alloc::{AllocError, AllocFailed, Global};
 use thiserror::Error;
 use weed_base::Path;

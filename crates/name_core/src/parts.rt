@@ -1,5 +1,6 @@
 //! A record's messages, one in the other: what an event is made of before it is looked at what it means.
-use crate::messages::{AttributesFields, EntryFields, EventFields, NotificationFields};
+use crate::messages::{EntryFields, EventFields, NotificationFields};
+use entry::AttributesFields;
 
 /// Entry with its attributes.
 #[derive(Debug, Drop)]

@@ -7,7 +7,7 @@ ghost use Rattle.name_core.specs.RecordText.{CanBeWritten, record_text};
 
 use crate::change::{Change, END_OF_TIME, Record, RecordChanges};
 use crate::command::{Command, PlanFault, Refusal};
-use crate::entry::Entry;
+use crate::made::directory_made_at;
 use crate::names::Names;
 use std::alloc::Global;
 use weed_base::Path;
@@ -85,7 +85,7 @@ fn new_directories<V: Names>(
     for depth in 0..path.depth() {
         let prefix = path.prefix(alloc, depth + 1)?;
         match view.find(alloc, &prefix)? {
-            None => changes.push(Change::Put(prefix, Entry::directory_made_at(alloc, time)))?,
+            None => changes.push(Change::Put(prefix, directory_made_at(alloc, time)))?,
             Some(entry) if entry.is_file() => {
                 return Err(PlanFault::Refused(Refusal::IsFile(prefix)));
             }

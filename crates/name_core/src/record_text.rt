@@ -1,11 +1,12 @@
 ghost use Rattle.std.specs.Prelude.{◌≡◌, [], All, Ok, IfOk, IfSome, OnOk, length, unwrap_or};
 ghost use Rattle.weed_base.specs.Path.{IsPath, text_of};
-ghost use Rattle.name_core.specs.Readable.{FitTypes, FitsTypes, HasFittingValues, PutsDirectory};
+ghost use Rattle.entry.specs.AttributesText.{FitTypes};
+ghost use Rattle.name_core.specs.Readable.{FitsTypes, HasFittingValues, PutsDirectory};
 ghost use Rattle.name_core.specs.RecordReading.{record_of};
-ghost use Rattle.name_core.specs.RecordText.{CanBeWritten, attributes_text, change_text, directory_bit, directory_of, entry_text, name_of, notification_text, record_text};
+ghost use Rattle.name_core.specs.RecordText.{CanBeWritten, change_text, directory_bit, directory_of, entry_text, name_of, notification_text, record_text};
 
 use crate::change::{Change, Record};
-use crate::entry::{Attributes, Entry, Kind};
+use entry::{Entry, Kind, write_attributes};
 use proto_wire::Writer;
 use std::alloc::{AllocError, Global};
 use weed_base::{LogText, Path};
@@ -91,39 +92,12 @@ impl Buffers {
     }
 }
 
-fn write_attributes(into: &mut Writer, attributes: &Attributes) -> Result<(), AllocError>
-    requires { into.old ≡ [] }
-    ensures text { OnOk result (into.new ≡ attributes_text attributes.now) }
-    ensures fits { OnOk result (FitTypes attributes.now) }
-{
-    into.varint(1, attributes.file_size)?;
-    into.varint(2, attributes.mtime)?;
-    into.varint(3, u64::from(attributes.mode))?;
-    into.varint(4, u64::from(attributes.uid))?;
-    into.varint(5, u64::from(attributes.gid))?;
-    into.varint(6, attributes.crtime)?;
-    into.bytes(7, attributes.mime.as_slice())?;
-    into.varint(10, u64::from(attributes.ttl_sec))?;
-    into.bytes(14, digest_of(attributes))
-}
-
 fn bit_of(kind: Kind) -> u64
     ensures { result ≡ directory_bit kind }
 {
     match kind {
         Kind::Directory => 1,
         Kind::File => 0,
-    }
-}
-
-/// The bytes of the digest, none where it isn't known.
-fn digest_of(attributes: &Attributes) -> &[u8]
-    ensures digest { result.now ≡ unwrap_or attributes.now.md5 [] }
-    ensures fits { IfSome attributes.now.md5 (λ digest. length digest ≡ 16) }
-{
-    match &attributes.md5 {
-        Some(digest) => digest,
-        None => &[],
     }
 }
 

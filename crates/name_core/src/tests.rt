@@ -1,7 +1,9 @@
 ghost use Rattle.std.specs.Prelude.{None};
-ghost use Rattle.name_core.specs.Entry.{IsValid};
+ghost use Rattle.entry.specs.Entry.{IsValid};
 
 use super::*;
+use crate::made::directory_made_at;
+use entry::{Attributes, Entry, Kind};
 use std::alloc::Global;
 use std::test::Fail;
 use weed_base::{Mime, Path};
@@ -44,7 +46,7 @@ impl Names for ListedNames<'_> {
             return Ok(None);
         }
         if self.directories.contains(&path.text()) {
-            return Ok(Some(Entry::directory_made_at(alloc, 0)));
+            return Ok(Some(directory_made_at(alloc, 0)));
         }
         if self.files.contains(&path.text()) {
             return Ok(Some(empty_file(alloc)));

@@ -2,8 +2,8 @@
 use Rattle.std.specs.Prelude.{◌≡◌, ◌≢◌, ℕ, List, [], Some}
 use Rattle.std.specs.FinMap.{get}
 use Rattle.name_core.specs.declared.change.Change.{Change}
-use Rattle.name_core.specs.declared.entry.Entry.{Entry}
-use Rattle.name_core.specs.Entry.{IsValid}
+use Rattle.entry.specs.declared.entry.Entry.{Entry}
+use Rattle.entry.specs.Entry.{IsValid}
 use Rattle.name_core.specs.Namespace.{Namespace, path_of}
 use Rattle.name_core.specs.RecordText.{HasValidEntry}
 

@@ -3,7 +3,8 @@ ghost use Rattle.std.specs.FinMap.{empty, from_entries};
 ghost use Rattle.name_core.specs.Namespace.{after_changes, is_within, step};
 ghost use Rattle.weed_command.specs.KeptNames.{MayBeMade, AreKept};
 
-use name_core::{Change, Entry, KeeperFault, Names, RecordChanges};
+use entry::Entry;
+use name_core::{Change, KeeperFault, Names, RecordChanges};
 use std::alloc::{AllocError, Global};
 use std::collections::HashMap;
 use weed_base::Path;

@@ -2,7 +2,7 @@ use Rattle.std.proofs.Common.{◌≡◌, ℕ, ◌+◌, List, take, Option, None,
 use Rattle.std.specs.Prelude.{IfSome}
 use Rattle.name_core.specs.declared.command.Refusal.TheVariants.{IsFile}
 use Rattle.std.specs.FinMap.{get}
-use Rattle.name_core.specs.declared.entry.Entry.{Entry}
+use Rattle.entry.specs.declared.entry.Entry.{Entry}
 use Rattle.name_core.specs.Plan.{directories_at, prefixes}
 use Rattle.name_core.proofs.PlanLoop.{PlansFront, found_at, front_file, front_pushed, front_directory}
 use Rattle.name_core.proofs.planning.new_directories.Goals as goal

@@ -2,7 +2,8 @@ use Rattle.std.proofs.Common.{ap, ◌∙◌}
 use Rattle.proto_wire.specs.Field.{value_text, field_text}
 use Rattle.name_core.specs.Messages.{entry_fields_in}
 use Rattle.name_core.specs.Steps.{entry_with_number, entry_with_text}
-use Rattle.name_core.proofs.MessageLemmas.{field_with, takes, is_fixed, entry_number, entry_text, entry_stays}
+use Rattle.entry.proofs.MessageLemmas.{field_with, takes, is_fixed}
+use Rattle.name_core.proofs.MessageLemmas.{entry_number, entry_text, entry_stays}
 use Rattle.name_core.proofs.messages.EntryFieldsMessage.take.Goals as goal
 
 pub returns-in-Varint : goal.returns-in-Varint

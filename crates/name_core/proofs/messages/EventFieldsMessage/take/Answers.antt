@@ -2,7 +2,8 @@ use Rattle.std.proofs.Common.{ap, ◌∙◌}
 use Rattle.proto_wire.specs.Field.{value_text, field_text}
 use Rattle.name_core.specs.Messages.{event_fields_in}
 use Rattle.name_core.specs.Steps.{event_with_text}
-use Rattle.name_core.proofs.MessageLemmas.{field_with, takes, is_no_text, event_text, event_stays}
+use Rattle.entry.proofs.MessageLemmas.{field_with, takes, is_no_text}
+use Rattle.name_core.proofs.MessageLemmas.{event_text, event_stays}
 use Rattle.name_core.proofs.messages.EventFieldsMessage.take.Goals as goal
 
 pub returns-in-Bytes : goal.returns-in-Bytes

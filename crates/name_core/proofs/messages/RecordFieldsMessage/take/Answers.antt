@@ -2,7 +2,7 @@ use Rattle.std.proofs.Common.{ap, ◌∙◌, cond, eqb}
 use Rattle.proto_wire.specs.Field.{value_text, field_text}
 use Rattle.proto_wire.specs.Taken.{last_number}
 use Rattle.proto_wire.proofs.Seen.{number_takes, number_stays}
-use Rattle.name_core.proofs.MessageLemmas.{field_with, takes, is_no_number}
+use Rattle.entry.proofs.MessageLemmas.{field_with, takes, is_no_number}
 use Rattle.name_core.proofs.messages.RecordFieldsMessage.take.Goals as goal
 
 pub returns-in-Varint : goal.returns-in-Varint

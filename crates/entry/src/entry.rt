@@ -3,17 +3,11 @@ ghost use Rattle.std.specs.Prelude.{◌≡◌, IfOk};
 use std::alloc::{AllocError, Global};
 use weed_base::Mime;
 
-/// In a second.
-const NANOSECONDS: u64 = 1_000_000_000;
-
 /// The greatest length of a file, in bytes.
 pub const MAX_FILE_SIZE: u64 = 274_877_906_944;
 
 /// The greatest length of a media type, in bytes.
 pub const MAX_MIME: usize = 255;
-
-/// The permission bits of a directory that a command makes.
-const DIRECTORY_MODE: u32 = 0o755;
 
 /// What an entry is.
 #[derive(Clone, Copy, Debug, PartialEq, Eq)]
@@ -69,28 +63,7 @@ pub struct Entry {
 }
 
 impl Entry {
-    ghost use Rattle.name_core.specs.Entry.{is_file_kind, new_directory};
-
-    /// The directory that a command makes at a moment, in nanoseconds since 1970. Takes no memory.
-    pub fn directory_made_at(alloc: Global, moment: u64) -> Entry
-        ensures { result ≡ new_directory moment }
-    {
-        let seconds = moment / NANOSECONDS;
-        Entry {
-            kind: Kind::Directory,
-            attributes: Attributes {
-                file_size: 0,
-                mtime: seconds,
-                mode: DIRECTORY_MODE,
-                uid: 0,
-                gid: 0,
-                crtime: seconds,
-                mime: Mime::of(Vec::new(alloc)),
-                ttl_sec: 0,
-                md5: None,
-            },
-        }
-    }
+    ghost use Rattle.entry.specs.Entry.{is_file_kind};
 
     /// Whether it is a file. Takes no memory.
     pub fn is_file(&self) -> bool

@@ -1,9 +1,9 @@
 use Rattle.std.proofs.Common.{ap, ◌∙◌}
 use Rattle.proto_wire.specs.Field.{value_text, field_text}
-use Rattle.name_core.specs.Messages.{attributes_in}
-use Rattle.name_core.specs.Steps.{attributes_with_number, attributes_with_text}
-use Rattle.name_core.proofs.MessageLemmas.{field_with, takes, is_fixed, attributes_number, attributes_text, attributes_stays}
-use Rattle.name_core.proofs.messages.AttributesFieldsMessage.take.Goals as goal
+use Rattle.entry.specs.AttributesText.{attributes_in}
+use Rattle.entry.specs.Steps.{attributes_with_number, attributes_with_text}
+use Rattle.entry.proofs.MessageLemmas.{field_with, takes, is_fixed, attributes_number, attributes_text, attributes_stays}
+use Rattle.entry.proofs.attributes_reading.AttributesFieldsMessage.take.Goals as goal
 
 pub returns-in-Varint : goal.returns-in-Varint
 returns-in-Varint c = λ before is.

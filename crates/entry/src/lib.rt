@@ -1,0 +1,10 @@
+//! Entries: what stands at a path, its text, and the bytes that a file denotes.
+#![tactic(auto)]
+
+mod attributes_reading;
+mod attributes_writing;
+mod entry;
+
+pub use attributes_reading::{AttributesFields, good_attributes, have_good_values};
+pub use attributes_writing::write_attributes;
+pub use entry::{Attributes, Entry, Kind, MAX_FILE_SIZE, MAX_MIME};
