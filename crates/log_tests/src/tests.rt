@@ -4,10 +4,12 @@ use std::test::Fail;
 use weed_base::{Bytes, Disk, FileName, MemDisk, NamedBytes, Pick};
 
 mod disk_frame;
+mod fields;
 mod images;
 mod link_frame;
 mod logs;
 mod paths;
+mod records;
 
 fn check(rt: &impl Abort, is_so: bool) {
     assert!(rt; is_so);

@@ -25,8 +25,3 @@ pub use laws::{
 pub use names::{KeeperFault, Names};
 pub use planning::plan;
 pub use record_fault::RecordFault;
-
-#[cfg(test)]
-mod reading_tests;
-#[cfg(test)]
-mod tests;

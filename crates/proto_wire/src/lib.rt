@@ -17,6 +17,3 @@ pub use laws::{fields_are_read, fields_follow, no_field_begins_another, words_ar
 pub use message::{Message, read_message};
 pub use reader::Reader;
 pub use writer::Writer;
-
-#[cfg(test)]
-mod tests;
