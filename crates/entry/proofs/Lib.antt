@@ -1,2 +1,5 @@
 pub mod MessageLemmas
 pub mod RoundTrip
+pub mod Lengths
+pub mod Seen
+pub mod Spans

@@ -1,13 +1,10 @@
 -- What one field more makes of a message.
-use Rattle.std.proofs.Common.{◌≡◌, ℕ, List, [], ◌∷◌, ◌++◌, Option, None, Some, Bool, true, false, cond, eqb, ◌⊎◌, inl, inr, Bor, refl, sym, ap, ◌∙◌}
+use Rattle.std.proofs.Common.{◌≡◌, ℕ, List, [], ◌∷◌, ◌++◌, None, ◌⊎◌, inl, inr, Bor, refl, sym, ap, ◌∙◌}
 use Rattle.proto_wire.specs.declared.field.Value.{Value}
 use Rattle.proto_wire.specs.declared.field.Value.TheVariants as values
 use Rattle.proto_wire.specs.Field.{ValueText, Varint, Bytes, FieldText, value_text}
-use Rattle.std.specs.Prelude.{is_some, unwrap_or, filter_map}
-use Rattle.std.specs.List.{last_or}
-use Rattle.std.specs.Option.{option_or}
-use Rattle.proto_wire.specs.Taken.{varint_of, bytes_of, last_message}
-use Rattle.proto_wire.proofs.Seen.{number_takes, text_takes, message_takes, number_stays, text_stays, message_stays, last-more}
+use Rattle.proto_wire.specs.Taken.{varint_of, bytes_of}
+use Rattle.proto_wire.proofs.Seen.{number_takes, text_takes, number_stays, text_stays}
 use Rattle.entry.specs.AttributesText.{attributes_in}
 use Rattle.entry.specs.Steps.{attributes_with_number, attributes_with_text}
 

@@ -1,21 +1,14 @@
 -- What is written is read back.
-use Rattle.std.proofs.Common.{◌≡◌, ◌≢◌, ℕ, ◌+◌, ◌≤◌, ◌<◌, ◌^◌, Bool, true, false, cond, ◌&&◌, ◌||◌, eqb, List, [], ◌∷◌, ◌++◌, length, map, Option, None, Some, Ok, Err, refl, sym, ap, ◌∙◌, subst, inl, inr, arith, All, length-append, append-nil}
-use Rattle.std.specs.Prelude.{IfSome, unwrap_or, flat_map, option_map, option_and_then, ok_or, filter_map}
-use Rattle.std.proofs.lemmas.Bool.{lt-ltb, le-leb, ne_eqb}
-use Rattle.std.specs.List.{last_or}
-use Rattle.std.proofs.lemmas.List.Elements.{filter_map-append, All-head, All-tail}
+use Rattle.std.proofs.Common.{◌≡◌, ℕ, ◌≤◌, ◌<◌, ◌^◌, Bool, true, cond, ◌&&◌, ◌||◌, eqb, List, [], ◌∷◌, ◌++◌, length, Option, None, Some, refl, sym, ap, ◌∙◌, subst, inl, inr, arith, length-append, append-nil}
+use Rattle.std.specs.Prelude.{IfSome, unwrap_or}
+use Rattle.std.proofs.lemmas.Bool.{lt-ltb, le-leb}
 use Rattle.std.proofs.lemmas.Bool.Decides.{eqb_tells}
 use Rattle.proto_wire.specs.Text.{IsFieldNumber, tag_text, varint_text, varint_field, bytes_field, message_field}
-use Rattle.proto_wire.specs.Field.{◌>>=◌, Varint, Bytes, FieldText, fields_of}
-use Rattle.proto_wire.specs.Taken.{number_in, text_in, messages_at, last_number}
-use Rattle.proto_wire.proofs.Spells.{Spells, Spells-append, Spells-nil, Spells-message, Spells-number, Spells-bytes, Spells-whole, number_fields, text_fields}
+use Rattle.proto_wire.specs.Field.{Varint, Bytes, FieldText}
+use Rattle.proto_wire.proofs.Spells.{Spells, Spells-append, Spells-number, Spells-bytes, number_fields, text_fields}
 use Rattle.entry.specs.declared.entry.Attributes.{Attributes}
-use Rattle.entry.specs.declared.entry.Entry.{Entry}
-use Rattle.entry.specs.declared.entry.Kind.TheVariants.{Directory}
-use Rattle.entry.specs.Entry.{IsValid}
 use Rattle.entry.specs.AttributesText.{AttributesText, attributes_in, attributes_text, are_good, attributes_of, FitTypes}
 use Rattle.entry.specs.Steps.{attributes_with_number, attributes_with_text}
-use Rattle.weed_base.specs.Path.{text_of}
 use Rattle.entry.proofs.MessageLemmas.{field_with, attributes_number, attributes_text as attributes_text_taken}
 
 -- ---- A message of the fields that were written, one more at a time

@@ -1,5 +1,6 @@
 ghost use Rattle.std.specs.Prelude.{◌≡◌, IfOk};
 
+use crate::chunk::EntryChunks;
 use std::alloc::{AllocError, Global};
 use weed_base::Mime;
 
@@ -60,10 +61,12 @@ impl Attributes {
 pub struct Entry {
     pub kind: Kind,
     pub attributes: Attributes,
+    /// Of a file alone.
+    pub chunks: EntryChunks,
 }
 
 impl Entry {
-    ghost use Rattle.entry.specs.Entry.{is_file_kind};
+    ghost use Rattle.entry.specs.Entry.{IsValid, file_length, is_file_kind};
 
     /// Whether it is a file. Takes no memory.
     pub fn is_file(&self) -> bool
@@ -75,6 +78,18 @@ impl Entry {
         }
     }
 
+    /// The length of the file in bytes: the greater of its size and the greatest end of a chunk. Takes no memory.
+    pub fn length(&self) -> u64
+        requires { IsValid self.now }
+        ensures { result ≡ file_length self.now }
+    {
+        let mut length = self.attributes.file_size;
+        for chunk in self.chunks.as_slice() {
+            length = length.max(chunk.offset + chunk.size);
+        }
+        length
+    }
+
     /// The same entry again.
     pub fn copy(&self, alloc: Global) -> Result<Entry, AllocError>
         ensures { IfOk result (λ made. made ≡ self.now) }
@@ -82,6 +97,7 @@ impl Entry {
         Ok(Entry {
             kind: self.kind,
             attributes: self.attributes.copy(alloc)?,
+            chunks: EntryChunks::of(self.chunks.as_slice().to_vec(alloc)?),
         })
     }
 }

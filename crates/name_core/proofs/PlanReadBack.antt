@@ -1,5 +1,5 @@
 -- A plan's record is read back from its text.
-use Rattle.std.proofs.Common.{◌≡◌, ◌≢◌, ℕ, ◌≤◌, ◌<◌, List, [], ◌∷◌, Some, None, Ok, Err, Option, Result, sym, ap, ◌∙◌, subst, arith}
+use Rattle.std.proofs.Common.{refl, ◌≡◌, ◌≢◌, ℕ, ◌≤◌, ◌<◌, List, [], ◌∷◌, Some, None, Ok, Err, Option, Result, sym, ap, ◌∙◌, subst, arith}
 use Rattle.std.specs.Prelude.{IfOk, IfSome}
 use Rattle.std.proofs.lemmas.List.Elements.{All-weaker}
 use Rattle.name_core.specs.declared.change.Change.{Change}
@@ -42,7 +42,7 @@ new_change_fits time low (Put path entry) is = record {
 new_change_fits time low (Drop path) is = absurd is
 
 new_is_valid : (time : ℕ) (change : Change) → IsNewDirectory time change → HasValidEntry change
-new_is_valid time (Put path entry) is = subst IsValid (sym is.2) (record { file_size = omega arith; mime = omega arith })
+new_is_valid time (Put path entry) is = subst IsValid (sym is.2) (record { bare = λ _. refl; chunks = λ k d below. absurd (omega arith); few = omega arith; file_size = omega arith; mime = omega arith })
 new_is_valid time (Drop path) is = absurd is
 
 new_is_rootless : (time : ℕ) (change : Change) → IsNewDirectory time change → path_of change ≢ []

@@ -69,7 +69,7 @@ put_is_good directory entry =
     when_true IsGood _ (option_map (λ path. Put path (entry_of entry)) (path_in directory entry.fields.name)) (λ is.
     let good = good_values entry.attributes (second_so _ _ (first_so (is_entry entry) _ is)) in
     kept_map (λ path. path ≢ []) IsGood (λ path. Put path (entry_of entry)) (path_in directory entry.fields.name) (path_in_filled directory entry.fields.name)
-    (λ path filled. record { rootless = filled; valid = record { file_size = good.0; mime = good.1 } }))
+    (λ path filled. record { rootless = filled; valid = record { bare = λ _. refl; chunks = λ k d below. absurd (omega arith); few = omega arith; file_size = good.0; mime = good.1 } }))
 
 change_is_good : (event : EventParts) → IfSome (change_of event) IsGood
 change_is_good event =

@@ -138,8 +138,8 @@ put_read directory entry parts short room outside read =
 
 -- ---- What the messages mean
 
-entry_again : (name : List ℕ) (entry : Entry) → entry.kind ≡ Directory → FitTypes entry.attributes → entry_of (spelled_entry name entry.attributes) ≡ entry
-entry_again name entry kind fits = λ i. record { kind = sym kind i; attributes = attributes_again entry.attributes fits i }
+entry_again : (name : List ℕ) (entry : Entry) → entry.kind ≡ Directory → FitTypes entry.attributes → entry.chunks ≡ [] → entry_of (spelled_entry name entry.attributes) ≡ entry
+entry_again name entry kind fits bare = λ i. record { kind = sym kind i; attributes = attributes_again entry.attributes fits i; chunks = sym bare i }
 
 -- A Put of a directory means itself.
 put_means : (path : List (List ℕ)) (entry : Entry) (note : List ℕ) → entry.kind ≡ Directory → FitsTypes (Put path entry) → path ≢ [] → IsValid entry
@@ -151,7 +151,7 @@ put_means path entry note kind fits filled valid =
     let put : directory_put directory parts ≡ Some (Put path entry) =
     ap (λ b. cond (b && true) (option_map (λ p. Put p (entry_of parts)) (path_in directory (name_of path))) None) good
     ∙ ap (option_map (λ p. Put p (entry_of parts))) (path_found path fits.path filled)
-    ∙ ap (λ e. Some (Put path e)) (entry_again (name_of path) entry kind fits.values) in
+    ∙ ap (λ e. Some (Put path e)) (entry_again (name_of path) entry kind fits.values (valid.bare kind)) in
     ap (option_and_then (if_stays directory None)) put
 
 put_again : (path : List (List ℕ)) (entry : Entry) → entry.kind ≡ Directory → FitsTypes (Put path entry) → path ≢ [] → IsValid entry → length (change_text (Put path entry)) < 2 ^ 64

@@ -36,6 +36,7 @@ new_directory moment = record {
     ttl_sec = 0;
     md5 = None;
   };
+  chunks = [];
 }
 
 -- A path with each front of further parts behind it, the shortest first.

@@ -73,7 +73,7 @@ is_entry entry = not entry.fields.has_chunks && are_good entry.attributes
 
 -- The entry of its parts.
 abbrev pub entry_of : EntryParts → Entry
-entry_of entry = record { kind = kind_of entry.fields.is_directory; attributes = attributes_of entry.attributes }
+entry_of entry = record { kind = kind_of entry.fields.is_directory; attributes = attributes_of entry.attributes; chunks = [] }
 
 -- The path that a text is read as, where it is one.
 abbrev pub path_read : List ℕ → Option (List (List ℕ))

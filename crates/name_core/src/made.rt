@@ -1,7 +1,7 @@
 ghost use Rattle.std.specs.Prelude.{◌≡◌};
 ghost use Rattle.name_core.specs.Plan.{new_directory};
 
-use entry::{Attributes, Entry, Kind};
+use entry::{Attributes, Entry, EntryChunks, Kind};
 use std::alloc::Global;
 use weed_base::Mime;
 
@@ -29,5 +29,6 @@ pub fn directory_made_at(alloc: Global, moment: u64) -> Entry
             ttl_sec: 0,
             md5: None,
         },
+        chunks: EntryChunks::of(Vec::new(alloc)),
     }
 }

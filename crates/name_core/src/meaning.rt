@@ -7,7 +7,7 @@ ghost use Rattle.name_core.specs.RecordReading.{change_of, directory_of_new, dir
 
 use crate::change::Change;
 use crate::parts::{EntryParts, EventParts};
-use entry::{Entry, Kind, good_attributes, have_good_values};
+use entry::{Entry, EntryChunks, Kind, good_attributes, have_good_values};
 use std::alloc::{AllocError, Global};
 use weed_base::{Path, PathFault};
 
@@ -103,5 +103,6 @@ fn valid_entry(alloc: Global, entry: &EntryParts) -> Result<Entry, AllocError>
     Ok(Entry {
         kind,
         attributes: good_attributes(alloc, &entry.attributes)?,
+        chunks: EntryChunks::of(Vec::new(alloc)),
     })
 }
