@@ -16,13 +16,8 @@ use Rattle.weed_base.specs.PathOrder.{path_cmp}
 use Rattle.entry.specs.declared.entry.Entry.{Entry}
 use Rattle.name_core.specs.declared.change.Change.TheVariants.{Put, Drop}
 use Rattle.name_core.specs.Namespace.{Namespace, step, is_within}
-<<<<<<< HEAD:crates/weed_command/proofs/NameLemmas.antt
-use Rattle.name_core.specs.Entry.{IsValid}
-use Rattle.weed_command.specs.KeptNames.{MayBeMade, AreKept}
-=======
 use Rattle.entry.specs.Entry.{IsValid}
-use Rattle.weed.specs.KeptNames.{MayBeMade, AreKept}
->>>>>>> ba4a3d2 (Entries and their attributes stand in a crate of their own):crates/weed/proofs/NameLemmas.antt
+use Rattle.weed_command.specs.KeptNames.{MayBeMade, AreKept}
 use Rattle.name_core.proofs.Paths.{same_path, same_path-refl, same_path-exact, get-insert_same, get-insert_other, path_cmp_total, path_cmp-IsAntisymmetric, cases_path}
 
 -- A path is within a top where the top is its front.

@@ -1,13 +1,7 @@
 use Rattle.std.proofs.Common.{refl, sym, subst}
-<<<<<<< HEAD:crates/weed_command/proofs/name_table/NameTableNames/find/Answers.antt
-use Rattle.name_core.specs.Entry.{IsValid}
+use Rattle.entry.specs.Entry.{IsValid}
 use Rattle.weed_command.proofs.NameLemmas.{found_at}
 use Rattle.weed_command.proofs.name_table.NameTableNames.find.Goals as goal
-=======
-use Rattle.entry.specs.Entry.{IsValid}
-use Rattle.weed.proofs.NameLemmas.{found_at}
-use Rattle.weed.proofs.name_table.NameTableNames.find.Goals as goal
->>>>>>> ba4a3d2 (Entries and their attributes stand in a crate of their own):crates/weed/proofs/name_table/NameTableNames/find/Answers.antt
 
 pub returns-in_ok-copy-in-Some-clause-found : goal.returns-in_ok-copy-in-Some-clause-found
 returns-in_ok-copy-in-Some-clause-found c = rw c.in_ok-copy-in-Some.ensures
