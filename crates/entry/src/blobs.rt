@@ -9,9 +9,18 @@ use std::alloc::{AllocError, Global};
 use thiserror::Error;
 use weed_base::{Bytes, Failed, Word};
 
-/// Why a needle wasn't put or deleted.
+/// Why a needle wasn't put.
 #[derive(Clone, Copy, Debug, PartialEq, Eq, Error)]
-pub enum BlobFault {
+pub enum PutFault {
+    #[error("a call of the blobs failed")]
+    Failed,
+    #[error("out of memory")]
+    Memory,
+}
+
+/// Why a needle wasn't deleted.
+#[derive(Clone, Copy, Debug, PartialEq, Eq, Error)]
+pub enum DeleteFault {
     #[error("a call of the blobs failed")]
     Failed,
     #[error("out of memory")]
@@ -55,12 +64,12 @@ pub trait Blobs {
 
     /// Puts these bytes, at most 32 MB, under an id that had none. After an `Err` they may stand under one all the
     /// same, which nobody names.
-    fn put(&mut self, alloc: Global, bytes: &[u8]) -> Result<Fid, BlobFault>
+    fn put(&mut self, alloc: Global, bytes: &[u8]) -> Result<Fid, PutFault>
         requires filled { 1 ≤ length bytes.now }
         requires short { length bytes.now ≤ 33554432 }
         ensures ok { IfOk result (λ fid. Puts fid bytes.now (needles self.old) (needles self.new)) }
         ensures err { IsErr result → (needles self.new ≡ needles self.old) ⊎ ((fid : Fid) × (kept : List ℕ) × Puts fid kept (needles self.old) (needles self.new)) }
-        ensures faults { Counts (faults self.old) (faults self.new) (IsErrOf result BlobFault.Failed) }
+        ensures faults { Counts (faults self.old) (faults self.new) (IsErrOf result PutFault.Failed) }
         ensures misses { misses self.new ≡ misses self.old }
         ensures beside { beside self.new ≡ beside self.old };
 
@@ -75,11 +84,11 @@ pub trait Blobs {
 
     /// Lets go of the bytes under an id, and tells whether they were held. After an `Err` they are held as before, or
     /// no longer.
-    fn delete(&mut self, alloc: Global, fid: &Fid) -> Result<bool, BlobFault>
+    fn delete(&mut self, alloc: Global, fid: &Fid) -> Result<bool, DeleteFault>
         ensures held { IfOk result (λ was. IfSome (needles self.old) (λ kept. IsTrue was ↔ IsSome (held_under kept fid.now))) }
         ensures ok { OnOk result (needles self.new ≡ option_map (without_needle fid.now) (needles self.old)) }
         ensures err { (needles self.new ≡ needles self.old) ⊎ (needles self.new ≡ option_map (without_needle fid.now) (needles self.old)) }
-        ensures faults { Counts (faults self.old) (faults self.new) (IsErrOf result BlobFault.Failed) }
+        ensures faults { Counts (faults self.old) (faults self.new) (IsErrOf result DeleteFault.Failed) }
         ensures misses { misses self.new ≡ misses self.old }
         ensures beside { beside self.new ≡ beside self.old };
 }

@@ -12,7 +12,7 @@ mod span_fault;
 
 pub use attributes_reading::{AttributesFields, good_attributes, have_good_values};
 pub use attributes_writing::write_attributes;
-pub use blobs::{BlobFault, Blobs, GetFault};
+pub use blobs::{Blobs, DeleteFault, GetFault, PutFault};
 pub use chunk::{Chunk, EntryChunks};
 pub use entry::{Attributes, Entry, Kind, MAX_FILE_SIZE, MAX_MIME};
 pub use span::read_span;
