@@ -1,5 +1,5 @@
 -- The eight bytes at the front of a volume's file.
-use Rattle.std.specs.Prelude.{◌≡◌, ℕ, ◌+◌, ◌*◌, List, [], ◌∷◌, ◌++◌, slice_index, Result, Ok, Err}
+use Rattle.std.specs.Prelude.{◌≡◌, ℕ, ◌+◌, ◌*◌, ◌≤◌, List, [], ◌∷◌, ◌++◌, slice_index, Result, Ok, Err}
 use Rattle.std.specs.Int.{w16, to_be_bytes}
 use Rattle.needle.specs.declared.placement.Placement.{Placement}
 use Rattle.needle.specs.declared.superblock.SuperBlock.{SuperBlock}
@@ -10,6 +10,14 @@ use Rattle.needle.specs.Layout.{version_byte, IsVersionByte}
 -- The three digits of a placement, as one decimal number.
 abbrev pub placement_byte : Placement → ℕ
 placement_byte placement = 100 * placement.x + 10 * placement.y + placement.z
+
+-- Each digit is 0 to 2.
+abbrev pub AreDigits : ℕ → ℕ → ℕ → Type 0
+AreDigits x y z = (x ≤ 2) × (y ≤ 2) × (z ≤ 2)
+
+-- The digits of the placement are these.
+abbrev pub HasDigits : ℕ → ℕ → ℕ → Placement → Type 0
+HasDigits x y z placement = (placement.x ≡ x) × (placement.y ≡ y) × (placement.z ≡ z)
 
 -- The byte is that of a placement.
 abbrev pub IsPlacementByte : ℕ → Type 0

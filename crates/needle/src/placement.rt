@@ -12,24 +12,30 @@ pub struct Placement {
 
 impl Placement {
     ghost use Rattle.std.specs.Prelude.{◌≡◌, MatchOption};
-    ghost use Rattle.needle.specs.SuperBlock.{placement_byte, IsPlacementByte};
+    ghost use Rattle.needle.specs.SuperBlock.{placement_byte, IsPlacementByte, AreDigits, HasDigits};
+
+    /// The placement of these digits; `None` where one is over 2. Takes no memory.
+    pub fn new(x: u8, y: u8, z: u8) -> Option<Placement>
+        ensures { MatchOption result (AreDigits x y z → ⊥) (HasDigits x y z) }
+    {
+        if x <= 2 && y <= 2 && z <= 2 {
+            Some(Placement { x, y, z })
+        } else {
+            None
+        }
+    }
 
     /// The byte that stands for the placement. Takes no memory.
-    pub(crate) fn byte(self) -> u8
+    pub fn byte(self) -> u8
         ensures { result ≡ placement_byte self }
     {
         100 * self.x + 10 * self.y + self.z
     }
 
     /// The placement of a byte, where it has one. Takes no memory.
-    pub(crate) fn of_byte(byte: u8) -> Option<Placement>
+    pub fn of_byte(byte: u8) -> Option<Placement>
         ensures { MatchOption result (IsPlacementByte byte → ⊥) (λ placement. byte ≡ placement_byte placement) }
     {
-        let (x, y, z) = (byte / 100, byte / 10 % 10, byte % 10);
-        if x <= 2 && y <= 2 && z <= 2 {
-            Some(Placement { x, y, z })
-        } else {
-            None
-        }
+        Self::new(byte / 100, byte / 10 % 10, byte % 10)
     }
 }

@@ -10,7 +10,7 @@ pub enum Version {
 
 impl Version {
     /// The byte that stands for the version. Takes no memory.
-    pub(crate) fn byte(self) -> u8
+    pub fn byte(self) -> u8
         ensures { result ≡ version_byte self }
     {
         match self {
@@ -20,7 +20,7 @@ impl Version {
     }
 
     /// The version of a byte, where it has one. Takes no memory.
-    pub(crate) fn of_byte(byte: u8) -> Option<Version>
+    pub fn of_byte(byte: u8) -> Option<Version>
         ensures { MatchOption result (IsVersionByte byte → ⊥) (λ version. byte ≡ version_byte version) }
     {
         match byte {
