@@ -16,7 +16,7 @@ use Rattle.needle.specs.Reading.{Contents, contents_at, needle_from}
 use Rattle.needle.proofs.ContentsRead.{contents_again}
 use Rattle.needle.proofs.PartsRead.{made}
 use Rattle.needle.proofs.Places.{IsPlaced, padded-is}
-use Rattle.needle.proofs.Verdicts.{begun_places}
+use Rattle.needle.proofs.Verdicts.{begun_places, begun_whole}
 
 -- ---- an item by its fields
 
@@ -80,6 +80,18 @@ apart version a b m n x y fits_a fits_b kept_a kept_b e =
   where
     same_rest : (s t : List ℕ) → s ≡ t → s ++ x ≡ t ++ y → x ≡ y
     same_rest s t same e = sym (drop_at s x (length t) (ap length same)) ∙ ap (drop (length t)) e ∙ drop_at t y (length t) refl
+
+-- one item alone begins a text, whatever its padding
+pub begin_alike : (version : Version) (text : List ℕ) (a b : ReadItem) → BeginsWith version text a → BeginsWith version text b → a ≡ b
+begin_alike version text a b begins_a begins_b =
+    let p = begun_places version text a begins_a in
+    let q = begun_places version text b begins_b in
+    let item : a.item ≡ b.item = item-same a.item b.item begins_a.item begins_b.item (sym p.cookie_is ∙ q.cookie_is) (sym p.key_is ∙ q.key_is) (sym p.content_is ∙ q.content_is) in
+    let taken : a.taken ≡ b.taken = sym (begun_whole version text a begins_a p.size_is).0 ∙ (begun_whole version text b begins_b q.size_is).0 in
+    same_read _ _ _ _ _ _ item taken (sym p.moment_is ∙ q.moment_is)
+  where
+    same_read : (i j : Item) (t u m n : ℕ) → i ≡ j → t ≡ u → m ≡ n → ◌≡◌ {A = ReadItem} (record { item = i; taken = t; moment = m }) (record { item = j; taken = u; moment = n })
+    same_read i j t u m n e f g = cc
 
 kept : (version : Version) (moment : ℕ) → moment < 2 ^ 64 → IsMoment version (kept_moment version moment)
 kept V2 moment fits = refl

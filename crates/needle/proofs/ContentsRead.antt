@@ -6,7 +6,7 @@ use Rattle.std.proofs.lemmas.Option.{cond_some}
 use Rattle.std.proofs.lemmas.List.{append-nil, nil_from_length, length-append}
 use Rattle.needle.specs.declared.item.Needle.{Needle}
 use Rattle.needle.specs.Item.{Marks, unmarked, flags, parts_text, counted, IsNeedle}
-use Rattle.needle.specs.Reading.{◌>>=◌, Contents, bytes_at, body_at, has_flag, parts_at, contents_at, needle_from}
+use Rattle.needle.specs.Reading.{◌>>=◌, Contents, bytes_at, body_at, has_flag, parts_at, told_at, contents_at, needle_from}
 use Rattle.needle.proofs.Codecs.{IsBytes, bind_some, bytes_reads, body_reads, body_text, IsBody}
 use Rattle.needle.proofs.Flagged.{Tells, flags_tell, told_flags}
 use Rattle.needle.proofs.PartsRead.{made, Parted, parts_take, parts_again}
@@ -21,7 +21,7 @@ abbrev from_body : List ℕ × List ℕ → Option Contents
 from_body body = bytes_at 1 body.1 >>= from_flags body
 
 contents_at-is : (bytes : List ℕ) → contents_at bytes ≡ (body_at bytes >>= from_body)
-unfolding contents_at
+unfolding contents_at told_at
 contents_at-is bytes = refl
 
 one_byte : (bytes : List ℕ) → length bytes ≡ 1 → bytes ≡ from_be_bytes w8 bytes ∷ []

@@ -45,13 +45,13 @@ check_marks-is marks needle =
 abbrev under : ℕ → ℕ → Needle → Needle
 under cookie key needle = record needle { cookie = cookie; key = key }
 
-item_at-live : (cookie key : ℕ) (bytes : List ℕ) (stored : ℕ) → 0 < length bytes → item_at cookie key bytes stored ≡ live_at cookie key (contents_at bytes) stored
+pub item_at-live : (cookie key : ℕ) (bytes : List ℕ) (stored : ℕ) → 0 < length bytes → item_at cookie key bytes stored ≡ live_at cookie key (contents_at bytes) stored
 unfolding item_at
 item_at-live cookie key bytes stored filled =
     ap (λ (b : Bool). cond b (behind (check_sum stored []) (λ _. Ok (Gone cookie key))) (live_at cookie key (contents_at bytes) stored))
     (ne_eqb (length bytes) 0 (λ (e : length bytes ≡ 0). omega (arith, filled, e)))
 
-item_at-gone : (cookie key : ℕ) (stored : ℕ) → item_at cookie key [] stored ≡ behind (check_sum stored []) (λ _. Ok (Gone cookie key))
+pub item_at-gone : (cookie key : ℕ) (stored : ℕ) → item_at cookie key [] stored ≡ behind (check_sum stored []) (λ _. Ok (Gone cookie key))
 unfolding item_at
 item_at-gone cookie key stored = refl
 

@@ -10,3 +10,4 @@ pub mod ItemsRead
 pub mod Verdicts
 pub mod Apart
 pub mod Slices
+pub mod Pieced

@@ -1,6 +1,6 @@
 -- The parts of a needle that are read are those that were written.
-use Rattle.std.proofs.Common.{◌≡◌, ℕ, ◌^◌, ◌<◌, Bool, List, ◌++◌, length, Option, Some, refl, sym, ap, subst, ◌∙◌, append_assoc}
-use Rattle.std.specs.Prelude.{IfSome, is_some}
+use Rattle.std.proofs.Common.{◌≡◌, ℕ, ◌^◌, ◌<◌, Bool, List, [], ◌++◌, length, Option, Some, None, refl, sym, ap, subst, ◌∙◌, append_assoc}
+use Rattle.std.specs.Prelude.{IfSome, is_some, option_map}
 use Rattle.std.proofs.lemmas.Option.{same_Some}
 use Rattle.needle.specs.Item.{part, short_text, long_text, five_bytes, parts_text}
 use Rattle.needle.specs.Reading.{◌>>=◌, Contents, bytes_at, short_at, long_at, five_at, part_at, has_flag, parts_at, needle_from}
@@ -104,3 +104,27 @@ parts_again body n name mime modified ttl pairs rest name_fits has_name mime_fit
   where
     regrouped : (a b c d e r : List ℕ) → (a ++ (b ++ (c ++ (d ++ e)))) ++ r ≡ a ++ (b ++ (c ++ (d ++ (e ++ r))))
     regrouped a b c d e r = simp append_assoc
+
+-- ---- what is told of other data
+
+-- What was read, of this data.
+abbrev pub with_body : List ℕ → Contents → Contents
+with_body body parts = record parts { body = body }
+
+abbrev pub with_body_first : List ℕ → Contents × List ℕ → Contents × List ℕ
+with_body_first body read = (with_body body read.0, read.1)
+
+pub under : {A B C : Type 0} (g : B → C) (r : Option A) (f : A → Option B) (h : A → Option C) → ((x : A) → option_map g (f x) ≡ h x) → option_map g (r >>= f) ≡ (r >>= h)
+under g None f h same = refl
+under g (Some x) f h same = same x
+
+pub parts-body : (body : List ℕ) (flags : ℕ) (bytes : List ℕ) → option_map (with_body_first body) (parts_at [] flags bytes) ≡ parts_at body flags bytes
+parts-body body flags bytes =
+    ap (option_map (with_body_first body)) (parts_at-is [] flags bytes)
+    ∙ under (with_body_first body) (part_at (has_flag flags 2) short_at bytes) (from_name [] flags) (from_name body flags)
+    (λ name. under (with_body_first body) (part_at (has_flag flags 4) short_at name.1) (from_mime [] flags name) (from_mime body flags name)
+    (λ mime. under (with_body_first body) (part_at (has_flag flags 8) five_at mime.1) (from_modified [] flags name mime) (from_modified body flags name mime)
+    (λ modified. under (with_body_first body) (part_at (has_flag flags 16) (bytes_at 2) modified.1) (from_ttl [] flags name mime modified) (from_ttl body flags name mime modified)
+    (λ ttl. under (with_body_first body) (part_at (has_flag flags 32) long_at ttl.1)
+    (λ pairs. Some (made [] flags name.0 mime.0 modified.0 ttl.0 pairs.0, pairs.1)) (λ pairs. Some (made body flags name.0 mime.0 modified.0 ttl.0 pairs.0, pairs.1)) (λ pairs. refl)))))
+    ∙ sym (parts_at-is body flags bytes)

@@ -110,7 +110,7 @@ moment_peeled V3 size text is fits room =
     ∙ ap (λ (n : ℕ). to_be_bytes w64 (eight_at (20 + n) text) ++ drop (20 + size + 8) text) is
     ∙ ap (λ (n : ℕ). to_be_bytes w64 (eight_at (20 + size_in text) text) ++ drop n text) places
 
-frame-least : (version : Version) → 20 ≤ frame_len version
+pub frame-least : (version : Version) → 20 ≤ frame_len version
 frame-least V2 = omega arith
 frame-least V3 = omega arith
 

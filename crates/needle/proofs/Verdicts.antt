@@ -24,16 +24,16 @@ use Rattle.needle.proofs.Places.{front, padded-is, text_peeled, Placed, IsPlaced
 
 -- ---- the two cases of a length
 
-abbrev made : Version → List ℕ → Item → ReadItem
+abbrev pub made : Version → List ℕ → Item → ReadItem
 made version text item = record { item = item; taken = padded version (size_in text); moment = moment_in version text }
 
-abbrev inner : Version → List ℕ → Result Item NeedleFault
+abbrev pub inner : Version → List ℕ → Result Item NeedleFault
 inner version text = item_at (four_at 0 text) (eight_at 4 text) (counted_in text) (checksum_in text)
 
-abbrev wrapped : Version → List ℕ → Result Item NeedleFault → Result ReadItem NeedleFault
+abbrev pub wrapped : Version → List ℕ → Result Item NeedleFault → Result ReadItem NeedleFault
 wrapped version text read = behind read (λ item. Ok (made version text item))
 
-read_at-whole : (version : Version) (text : List ℕ) → IsWhole version text → read_at version text ≡ wrapped version text (inner version text)
+pub read_at-whole : (version : Version) (text : List ℕ) → IsWhole version text → read_at version text ≡ wrapped version text (inner version text)
 unfolding read_at
 read_at-whole version text whole =
     ap (λ (b : Bool). cond b (Err Truncated) (wrapped version text (inner version text))) (le-ltb (length text) (padded version (size_in text)) whole)
@@ -175,7 +175,7 @@ inner-same : (cookie cookie' key key' : ℕ) (bytes bytes' : List ℕ) (sum sum'
 inner-same cookie cookie' key key' bytes bytes' sum sum' a b c d = cc
 
 -- the length of an item that a text begins with
-begun_whole : (version : Version) (text : List ℕ) (read : ReadItem) → BeginsWith version text read → size_in text ≡ length (content read.item)
+pub begun_whole : (version : Version) (text : List ℕ) (read : ReadItem) → BeginsWith version text read → size_in text ≡ length (content read.item)
     → (padded version (size_in text) ≡ read.taken) × (read.taken ≤ length text)
 begun_whole version text read begins size =
     let before : List ℕ = item_front read.item version read.moment in
@@ -263,3 +263,7 @@ is_refused version text result bytes gives fault other =
           | inl same ↦ same ∙ read
           | inr memory ↦ absurd (never (subst IsOk read memory.1))
         ]
+
+-- Reading gives exactly the item that the text begins with.
+pub read_exactly : (version : Version) (text : List ℕ) (read : ReadItem) → IsBytes text → (read_at version text ≡ Ok read) ↔ BeginsWith version text read
+read_exactly version text read bytes = (λ is. subst (Verdict version text) is (verdict version text bytes), found_again version text read bytes)

@@ -1,9 +1,13 @@
 -- What the bytes of an item say, each field at its place. Bytes that aren't there count as 0.
-use Rattle.std.specs.Prelude.{ℕ, ◌+◌, ◌<◌, ◌≤◌, List, take, drop, length}
+use Rattle.std.specs.Prelude.{ℕ, ◌+◌, ◌^◌, ◌<◌, ◌≤◌, List, slice_index, take, drop, length}
 use Rattle.std.specs.Int.{w32, w64, from_be_bytes}
 use Rattle.needle.specs.declared.version.Version.{Version}
 use Rattle.needle.specs.declared.version.Version.TheVariants.{V2, V3}
 use Rattle.needle.specs.Layout.{padded}
+
+-- Each is a byte.
+abbrev pub AreBytes : List ℕ → Type 0
+AreBytes bytes = (i : ℕ) → slice_index bytes i < 2 ^ 8
 
 -- A number of four bytes at a place.
 abbrev pub four_at : ℕ → List ℕ → ℕ

@@ -5,3 +5,7 @@ pub mod Item
 pub mod Reading
 pub mod Fields
 pub mod Answer
+pub mod Faults
+pub mod Running
+pub mod Pieces
+pub mod Framing

@@ -76,13 +76,18 @@ parts_at body flags bytes = do
   pairs ← part_at (has_flag flags 32) long_at ttl.1
   Some (record { body = body; flags = flags; name = name.0; mime = mime.0; modified = modified.0; ttl = ttl.0; pairs = pairs.0 }, pairs.1)
 
+-- What the size counts behind the data.
+unfoldable pub told_at : List ℕ → List ℕ → Option Contents
+told_at body bytes = do
+  flags ← bytes_at 1 bytes
+  parts ← parts_at body (from_be_bytes w8 flags.0) flags.1
+  if length parts.1 == 0 then Some parts.0 else None
+
 -- All that the size counts.
 unfoldable pub contents_at : List ℕ → Option Contents
 contents_at bytes = do
   body ← body_at bytes
-  flags ← bytes_at 1 body.1
-  parts ← parts_at body.0 (from_be_bytes w8 flags.0) flags.1
-  if length parts.1 == 0 then Some parts.0 else None
+  told_at body.0 body.1
 
 -- The parts without where they lie in memory.
 abbrev pub contents_of : Parts → Contents

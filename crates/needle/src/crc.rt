@@ -1,6 +1,7 @@
-ghost use Rattle.std.specs.Prelude.{◌≡◌, ◌+◌, ◌*◌, ◌≤◌, length, take, drop, fold};
+ghost use Rattle.std.specs.Prelude.{◌≡◌, ◌+◌, ◌*◌, ◌≤◌, ℕ, List, [], ◌++◌, length, take, drop, fold};
 ghost use Rattle.std.specs.Int.{w32, to_le_bytes};
 ghost use Rattle.needle.specs.Crc.{shifted_by, byte_step, checksum, AreTables};
+ghost use Rattle.needle.specs.Running.{IsRunOf};
 
 use crate::crc_tables::TABLES;
 
@@ -78,11 +79,49 @@ fn run_blocks(tables: &[[u32; 256]; 16], remainder: u32, bytes: &[u8]) -> u32
     run(tables, remainder, rest)
 }
 
+/// Takes bytes into the remainder.
+fn run_all(remainder: u32, bytes: &[u8]) -> u32
+    ensures { result ≡ fold byte_step remainder bytes.now }
+{
+    run_blocks(&TABLES, remainder, bytes)
+}
+
 /// The CRC-32C of the bytes. Takes no memory.
 pub fn crc32c(bytes: &[u8]) -> u32
     ensures { result ≡ checksum bytes.now }
 {
-    run_blocks(&TABLES, u32::MAX, bytes) ^ u32::MAX
+    run_all(u32::MAX, bytes) ^ u32::MAX
+}
+
+/// The CRC-32C of bytes that come in pieces.
+#[derive(Clone, Copy, Debug)]
+pub struct Checksum {
+    remainder: u32,
+}
+
+impl Checksum {
+    /// Of no bytes yet. Takes no memory.
+    pub fn new() -> Checksum
+        ensures { IsRunOf [] result }
+    {
+        Checksum {
+            remainder: u32::MAX,
+        }
+    }
+
+    /// Takes the next bytes. Takes no memory.
+    pub fn add(&mut self, bytes: &[u8])
+        ensures { (so_far : List ℕ) → IsRunOf so_far self.old → IsRunOf (so_far ++ bytes.now) self.new }
+    {
+        self.remainder = run_all(self.remainder, bytes);
+    }
+
+    /// That of all bytes so far. Takes no memory.
+    pub fn value(&self) -> u32
+        ensures { (so_far : List ℕ) → IsRunOf so_far self.now → result ≡ checksum so_far }
+    {
+        self.remainder ^ u32::MAX
+    }
 }
 
 #[cfg(test)]

@@ -1,5 +1,6 @@
 ghost use Rattle.std.specs.Prelude.{◌≡◌};
 ghost use Rattle.needle.specs.declared.fault.NeedleFault.TheVariants.{Memory};
+ghost use Rattle.needle.specs.Faults.{fault_name};
 
 use std::alloc::{AllocError, AllocFailed};
 use thiserror::Error;
@@ -29,6 +30,25 @@ pub enum NeedleFault {
     ChecksumMismatch { stored: u32, computed: u32 },
     #[error("out of memory")]
     Memory,
+}
+
+impl NeedleFault {
+    /// The name of the variant. Takes no memory.
+    pub fn name(&self) -> &'static str
+        ensures { result.now ≡ fault_name self.now }
+    {
+        match self {
+            NeedleFault::BadVersion => "BadVersion",
+            NeedleFault::BadPlacement => "BadPlacement",
+            NeedleFault::ReservedSet => "ReservedSet",
+            NeedleFault::Truncated => "Truncated",
+            NeedleFault::SizeMismatch => "SizeMismatch",
+            NeedleFault::Compressed => "Compressed",
+            NeedleFault::Manifest => "Manifest",
+            NeedleFault::ChecksumMismatch { .. } => "ChecksumMismatch",
+            NeedleFault::Memory => "Memory",
+        }
+    }
 }
 
 impl From<AllocError> for NeedleFault {

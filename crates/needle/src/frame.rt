@@ -17,7 +17,7 @@ pub(crate) struct Frame<'a> {
     pub(crate) taken: u64,
 }
 
-fn u32_at(place: usize, text: &[u8]) -> u32
+pub(crate) fn u32_at(place: usize, text: &[u8]) -> u32
     requires { place + 4 ≤ length text.now }
     ensures { result ≡ four_at place text.now }
 {
@@ -25,7 +25,7 @@ fn u32_at(place: usize, text: &[u8]) -> u32
     u32::from_be_bytes([four[0], four[1], four[2], four[3]])
 }
 
-fn u64_at(place: usize, text: &[u8]) -> u64
+pub(crate) fn u64_at(place: usize, text: &[u8]) -> u64
     requires { place + 8 ≤ length text.now }
     ensures { result ≡ eight_at place text.now }
 {

@@ -1,10 +1,14 @@
 //! Needles: the items of a volume's file, and how they are laid out.
 #![tactic(auto)]
 
+mod check;
 mod crc;
 mod crc_tables;
+mod deletion;
 mod fault;
 mod frame;
+mod framing;
+mod head;
 mod item;
 mod laws;
 mod parts;
@@ -16,10 +20,13 @@ mod tests;
 mod version;
 mod writing;
 
-pub use crc::crc32c;
+pub use crc::{Checksum, crc32c};
+pub use deletion::DeletionText;
 pub use fault::NeedleFault;
+pub use framing::Framed;
+pub use head::Head;
 pub use item::{Item, Needle, ReadItem};
-pub use laws::no_item_begins_another;
+pub use laws::{items_are_read, no_item_begins_another};
 pub use placement::Placement;
 pub use superblock::SuperBlock;
 pub use version::{Version, padded_len};

@@ -1,5 +1,5 @@
 ghost use Rattle.std.specs.Prelude.{◌≡◌, option_map, option_copied};
-ghost use Rattle.needle.specs.Reading.{short_at, long_at, five_at, bytes_at, body_at, has_flag, part_at, parts_at, contents_at, contents_of};
+ghost use Rattle.needle.specs.Reading.{short_at, long_at, five_at, bytes_at, body_at, has_flag, part_at, parts_at, contents_at, told_at, contents_of};
 
 /// The flag of a name.
 pub(crate) const NAME: u8 = 0x02;
@@ -157,7 +157,15 @@ impl<'a> Parts<'a> {
         ensures { option_map contents_of result ≡ contents_at bytes.now }
     {
         let (body, rest) = body(bytes)?;
-        let (flags, rest) = split(1, rest)?;
+        Self::behind(body, rest)
+    }
+
+    /// The parts of a body and of the bytes behind it, where they fill these.
+    #[tactic(auto, unfolding(crate::specs::Reading::told_at))]
+    pub(crate) fn behind(body: &'a [u8], bytes: &'a [u8]) -> Option<Parts<'a>>
+        ensures { option_map contents_of result ≡ told_at body.now bytes.now }
+    {
+        let (flags, rest) = split(1, bytes)?;
         let (parts, rest) = flagged_parts(body, flags[0], rest)?;
         if !rest.is_empty() {
             return None;

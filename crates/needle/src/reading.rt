@@ -21,7 +21,7 @@ const RESERVED: u8 = 0x40;
 const MANIFEST: u8 = 0x80;
 
 /// Refuses flags that tell of no part.
-fn refuse_marks(flags: u8) -> Result<(), NeedleFault>
+pub(crate) fn refuse_marks(flags: u8) -> Result<(), NeedleFault>
     ensures { result ≡ check_marks flags }
 {
     if has(flags, RESERVED) {
@@ -115,6 +115,8 @@ impl Needle {
     /// The item at the front of the text, with copies of its parts. The refusals come in the order
     /// `Truncated`, `SizeMismatch`, `ReservedSet`, `Compressed`, `Manifest`, `ChecksumMismatch`, `Memory`.
     pub fn read(alloc: Global, text: &[u8], version: Version) -> Result<ReadItem, NeedleFault>
+        // It answers what the definition reads.
+        ensures gives { Gives result (read_at version text.now) }
         // What is read is spelled so, up to its padding.
         ensures found { IfOk result (λ read. BeginsWith version text.now read) }
         // What is spelled so is read, unless memory runs out.

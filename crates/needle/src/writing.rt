@@ -1,4 +1,4 @@
-ghost use Rattle.std.specs.Prelude.{◌≡◌, ℕ, List, replicate, ◌+◌, ◌<◌, ◌≤◌, ◌^◌, ◌++◌, length, IfOk, OnOk, IfSome};
+ghost use Rattle.std.specs.Prelude.{◌≡◌, ℕ, List, replicate, ◌+◌, ◌-◌, ◌%◌, ◌<◌, ◌≤◌, ◌^◌, ◌++◌, length, IfOk, OnOk, IfSome};
 ghost use Rattle.std.specs.Int.{w32, w64, to_be_bytes};
 ghost use Rattle.needle.specs.Answer.{BeginsWith, IsItem, kept_moment};
 ghost use Rattle.needle.specs.Layout.{padded};
@@ -57,7 +57,7 @@ fn put_ttl(out: &mut Vec<u8>, ttl: Option<[u8; 2]>) -> Result<(), AllocError>
 }
 
 /// The flags of the parts that are there.
-fn flags_of(needle: &Needle) -> u8
+pub(crate) fn flags_of(needle: &Needle) -> u8
     ensures { result ≡ flags unmarked needle.now }
 {
     u8::from(needle.name.is_some()) * NAME
@@ -102,7 +102,7 @@ fn ttl_len(ttl: Option<[u8; 2]>) -> usize
 }
 
 /// How many bytes the size counts.
-fn counted_len(needle: &Needle) -> usize
+pub(crate) fn counted_len(needle: &Needle) -> usize
     requires { IsWithinLimits needle.now }
     ensures len { result ≡ length (counted unmarked needle.now) }
     ensures bound { result < 2 ^ 32 }
@@ -118,7 +118,7 @@ fn counted_len(needle: &Needle) -> usize
 }
 
 /// Adds the parts that a flag tells of.
-fn put_parts(out: &mut Vec<u8>, needle: &Needle) -> Result<(), AllocError>
+pub(crate) fn put_parts(out: &mut Vec<u8>, needle: &Needle) -> Result<(), AllocError>
     requires { IsWithinLimits needle.now }
     ensures { OnOk result (out.new.items ≡ out.old.items ++ parts_text needle.now) }
 {
@@ -142,7 +142,7 @@ fn put_counted(out: &mut Vec<u8>, needle: &Needle) -> Result<(), AllocError>
 }
 
 /// Adds the moment, from version 3 on.
-fn put_moment(out: &mut Vec<u8>, version: Version, moment: u64) -> Result<(), AllocError>
+pub(crate) fn put_moment(out: &mut Vec<u8>, version: Version, moment: u64) -> Result<(), AllocError>
     ensures { OnOk result (out.new.items ≡ out.old.items ++ moment_text version moment) }
 {
     match version {
@@ -160,12 +160,19 @@ fn put_head(out: &mut Vec<u8>, cookie: u32, key: u64, size: u32) -> Result<(), A
     out.extend_from_slice(&size.to_be_bytes())
 }
 
+/// Adds the 1 to 8 zeros that stand behind `len` bytes, to a multiple of 8.
+pub(crate) fn put_zeros(out: &mut Vec<u8>, len: usize) -> Result<(), AllocError>
+    ensures { OnOk result (out.new.items ≡ out.old.items ++ replicate (8 - len % 8) 0) }
+{
+    out.extend_from_slice(&[0; 8][..8 - len % 8])
+}
+
 /// Adds 1 to 8 zeros, to a multiple of 8.
 fn put_padding(out: &mut Vec<u8>) -> Result<(), AllocError>
     ensures { OnOk result (out.new.items ≡ out.old.items ++ replicate (padding_len out.old.items) 0) }
 {
-    let padding = 8 - out.len() % 8;
-    out.extend_from_slice(&[0; 8][..padding])
+    let len = out.len();
+    put_zeros(out, len)
 }
 
 /// What the size of the item is.
