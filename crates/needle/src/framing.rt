@@ -58,12 +58,7 @@ fn put_tail(
 impl Needle {
     /// The item of the needle around its data, padded with zeros; `moment`, in nanoseconds since 1970, stands in
     /// it from version 3 on.
-    pub fn framed(
-        &self,
-        alloc: Global,
-        version: Version,
-        moment: u64,
-    ) -> Result<Framed, AllocError>
+    pub fn framed(&self, alloc: Global, version: Version, moment: u64) -> Result<Framed, AllocError>
         requires { IsWithinLimits self.now }
         ensures { IfOk result (Frames self.now version moment) }
     {

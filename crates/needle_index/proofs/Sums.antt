@@ -1,5 +1,5 @@
 -- What a change of one key makes of a sum over the values.
-use Rattle.std.proofs.Common.{◌≡◌, ◌≤◌, add-zero, ◌⊎◌, inl, inr, ℕ, ◌+◌, ◌%◌, ◌^◌, ◌<◌, List, [], ◌∷◌, map, refl, sym, ap, ◌∙◌, arith, Bool, true, false, cond, nat_eq, Option, Some, None}
+use Rattle.std.proofs.Common.{◌≡◌, add-zero, ◌⊎◌, inl, inr, ℕ, ◌+◌, ◌%◌, ◌^◌, ◌<◌, List, [], ◌∷◌, map, refl, sym, ap, ◌∙◌, arith, Bool, true, false, cond, nat_eq, Option, Some, None}
 use Rattle.std.specs.Cmp.{nat_cmp_total}
 use Rattle.std.specs.FinMap.Entries.{by_order}
 use Rattle.std.specs.FinMap.{empty, entries, entries-insert, find, get, get-entries, get-insert, get-remove, insert, len-empty, len-entries, put, remove, values}
@@ -137,23 +137,3 @@ pub none_kept : (version : Version) (m : Spots) → m ≡ empty → 0 ≡ live v
 none_kept version m is =
     let none : live version m ≡ 0 = ap (live version) is ∙ sum_of-empty (λ s. padded version s.size) in
     omega (arith, none)
-
--- The bytes of a map after a change, at most.
-pub live-empty : (version : Version) → live version empty ≡ 0
-live-empty version = sum_of-empty (λ s. padded version s.size)
-
-pub live-insert-le : (version : Version) (m : Spots) (k : ℕ) (spot : Spot) → live version (insert m k spot) ≤ live version m + padded version spot.size
-live-insert-le version m k spot = omega (arith, sum_of-insert (λ s. padded version s.size) m k spot)
-
-pub live-remove-le : (version : Version) (m : Spots) (k : ℕ) → live version (remove m k) ≤ live version m
-live-remove-le version m k = omega (arith, sum_of-remove (λ s. padded version s.size) m k)
-
--- Two puts into an empty map.
-pub live_of_two : (version : Version) (none one two : Spots) (k l : ℕ) (spot last : Spot)
-    → none ≡ empty → one ≡ insert none k spot → two ≡ insert one l last
-    → live version two ≤ padded version spot.size + padded version last.size
-live_of_two version none one two k l spot last is then next =
-    let start : live version none ≡ 0 = ap (live version) is ∙ live-empty version in
-    let first : live version one ≡ live version (insert none k spot) = ap (live version) then in
-    let second : live version two ≡ live version (insert one l last) = ap (live version) next in
-    omega (arith, live-insert-le version none k spot, live-insert-le version one l last)

@@ -1,3 +1,4 @@
 pub mod Index
 pub mod Text
 pub mod Bytes
+pub mod Faults

@@ -1,5 +1,6 @@
 ghost use Rattle.std.specs.Prelude.{◌≡◌};
 ghost use Rattle.needle_index.specs.declared.fault.IndexFault.TheVariants.{Memory};
+ghost use Rattle.needle_index.specs.Faults.{fault_name};
 
 use std::alloc::AllocError;
 use thiserror::Error;
@@ -12,6 +13,18 @@ pub enum IndexFault {
     Ragged { length: u64 },
     #[error("out of memory")]
     Memory,
+}
+
+impl IndexFault {
+    /// The name of the variant. Takes no memory.
+    pub fn name(&self) -> &'static str
+        ensures { result.now ≡ fault_name self.now }
+    {
+        match self {
+            IndexFault::Ragged { .. } => "Ragged",
+            IndexFault::Memory => "Memory",
+        }
+    }
 }
 
 impl From<AllocError> for IndexFault {

@@ -1,9 +1,9 @@
-ghost use Rattle.std.specs.Prelude.{◌≡◌, ◌≢◌, ◌+◌, ◌-◌, ◌%◌, ◌^◌, ◌<◌, ◌≤◌, length, IfErr, IfOk, IsOk, OnOk, OnErr};
-ghost use Rattle.std.specs.FinMap.{empty, get, insert, remove};
+ghost use Rattle.std.specs.Prelude.{◌≡◌, ◌≢◌, ◌+◌, ◌-◌, ◌%◌, ◌^◌, ◌<◌, ◌≤◌, ◌↔◌, None, IsTrue, length, IfErr, IfOk, IsOk, OnOk, OnErr};
+ghost use Rattle.std.specs.FinMap.{empty, get, insert, len, remove};
 ghost use Rattle.needle_index.specs.Bytes.{live, padded_in};
-ghost use Rattle.needle_index.specs.Text.{IsCauseIn, entered, spots_of};
+ghost use Rattle.needle_index.specs.Text.{IsCauseIn, entered, entered_all, spots_of};
 
-use crate::entry::Entry;
+use crate::entry::IndexEntry;
 use crate::fault::IndexFault;
 use crate::slots::Slots;
 use crate::spot::Spot;
@@ -49,28 +49,41 @@ impl IndexMap {
 
     /// The map that the entries of a text leave, one after another. `Ragged` comes exactly where its length is no
     /// multiple of 16.
-    #[tactic(auto, unfolding(crate::specs::Text::spots_of))]
     pub fn load(alloc: Global, text: &[u8]) -> Result<IndexMap, IndexFault>
         ensures loaded { IfOk result (λ map. map.spots ≡ spots_of text.now) }
         ensures cause { IfErr result (IsCauseIn text.now) }
         ensures ragged { length text.now % 16 ≢ 0 → result ≡ Err (IndexFault.Ragged (length text.now)) }
     {
-        let (entries, rest) = text.as_chunks::<{ Entry::LENGTH }>();
-        if !rest.is_empty() {
+        if text.len() % IndexEntry::LENGTH != 0 {
             return Err(IndexFault::Ragged {
                 length: text.len() as u64,
             });
         }
         let mut map = IndexMap::new(alloc);
-        for bytes in entries {
-            map.enter(&Entry::read(bytes))?;
-        }
+        map.enter_all(text)?;
         Ok(map)
     }
 
-    /// Does what an entry says.
-    fn enter(&mut self, entry: &Entry) -> Result<(), AllocError>
-        ensures { OnOk result (self.new.spots ≡ entered self.old.spots entry.now) }
+    /// Does what the whole entries of a text say, one after another. After an `Err` those up to one of them are
+    /// done.
+    #[tactic(auto, unfolding(crate::specs::Text::entered_all))]
+    pub fn enter_all(&mut self, text: &[u8]) -> Result<(), AllocError>
+        ensures { OnOk result (self.new.spots ≡ entered_all self.old.spots text.now) }
+    {
+        let (entries, _) = text.as_chunks::<{ IndexEntry::LENGTH }>();
+        for bytes in entries {
+            self.enter(&IndexEntry::read(bytes))?;
+        }
+        Ok(())
+    }
+
+    /// Does what an entry says. Where `spare` is above 0, and for a removal, it takes no memory. An `Err` changes no
+    /// spot.
+    pub fn enter(&mut self, entry: &IndexEntry) -> Result<(), AllocError>
+        ensures ok { OnOk result (self.new.spots ≡ entered self.old.spots entry.now) }
+        ensures err { OnErr result (self.new.spots ≡ self.old.spots) }
+        ensures succeeds { 0 < self.old.spare → IsOk result }
+        ensures spare { self.old.spare ≤ self.new.spare + 1 }
     {
         if entry.is_removal() {
             let _ = self.remove(entry.key);
@@ -91,22 +104,38 @@ impl IndexMap {
         self.slots.get(key)
     }
 
+    /// How many keys have a spot. Takes no memory.
+    pub fn len(&self) -> u64
+        ensures { result ≡ len self.now.spots }
+    {
+        self.slots.len() as u64
+    }
+
+    /// Whether the other map has the same spots. Takes no memory.
+    pub fn is_same(&self, other: &IndexMap) -> bool
+        ensures { IsTrue result ↔ (self.now.spots ≡ other.now.spots) }
+    {
+        self.slots.is_same(&other.slots)
+    }
+
     /// Takes the memory for so many puts. The map stays, whatever the answer.
     pub fn reserve(&mut self, puts: u64) -> Result<(), AllocError>
         ensures spots { self.new.spots ≡ self.old.spots }
         ensures ok { OnOk result (puts ≤ self.new.spare) }
         ensures spare { self.old.spare ≤ self.new.spare }
+        ensures enough { puts ≤ self.old.spare → IsOk result }
     {
         self.slots.reserve(puts as usize)
     }
 
-    /// Gives the key this spot, and answers its former one. Where `spare` is above 0 it takes no memory. An `Err`
-    /// changes no spot.
+    /// Gives the key this spot, and answers its former one. Where `spare` is above 0, or the key has a spot, it
+    /// takes no memory. An `Err` changes no spot.
     pub fn put(&mut self, key: u64, spot: Spot) -> Result<Option<Spot>, AllocError>
         ensures former { IfOk result (λ former. former ≡ get self.old.spots key) }
         ensures ok { OnOk result (self.new.spots ≡ insert self.old.spots key spot) }
         ensures err { OnErr result (self.new.spots ≡ self.old.spots) }
         ensures succeeds { 0 < self.old.spare → IsOk result }
+        ensures absent { OnErr result (get self.old.spots key ≡ None) }
         ensures spare { self.old.spare ≤ self.new.spare + 1 }
     {
         let former = self.slots.insert(key, spot)?;

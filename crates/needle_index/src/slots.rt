@@ -1,5 +1,5 @@
-ghost use Rattle.std.specs.Prelude.{◌≡◌, ◌+◌, ◌<◌, ◌≤◌, IfOk, IsOk, OnOk, OnErr};
-ghost use Rattle.std.specs.FinMap.{empty, get, insert, remove};
+ghost use Rattle.std.specs.Prelude.{◌≡◌, ◌+◌, ◌<◌, ◌≤◌, ◌↔◌, None, IsTrue, IfOk, IsOk, OnOk, OnErr};
+ghost use Rattle.std.specs.FinMap.{empty, get, insert, len, remove};
 
 use crate::spot::Spot;
 use std::alloc::{AllocError, Global};
@@ -41,11 +41,26 @@ impl Slots {
         self.map.get(&key).copied()
     }
 
+    /// How many keys there are. Takes no memory.
+    pub fn len(&self) -> usize
+        ensures { result ≡ len self.now.spots }
+    {
+        self.map.len()
+    }
+
+    /// Whether the other has the same spots. Takes no memory.
+    pub fn is_same(&self, other: &Slots) -> bool
+        ensures { IsTrue result ↔ (self.now.spots ≡ other.now.spots) }
+    {
+        self.map == other.map
+    }
+
     /// Takes the memory for so many puts more.
     pub fn reserve(&mut self, puts: usize) -> Result<(), AllocError>
         ensures spots { self.new.spots ≡ self.old.spots }
         ensures ok { OnOk result (puts ≤ self.new.spare) }
         ensures spare { self.old.spare ≤ self.new.spare }
+        ensures enough { puts ≤ self.old.spare → IsOk result }
     {
         self.map.reserve(puts)
     }
@@ -56,6 +71,7 @@ impl Slots {
         ensures ok { OnOk result (self.new.spots ≡ insert self.old.spots key spot) }
         ensures err { OnErr result (self.new.spots ≡ self.old.spots) }
         ensures succeeds { 0 < self.old.spare → IsOk result }
+        ensures absent { OnErr result (get self.old.spots key ≡ None) }
         ensures spare { self.old.spare ≤ self.new.spare + 1 }
     {
         Ok(self.map.insert(key, spot)?)
