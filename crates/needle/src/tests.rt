@@ -123,9 +123,13 @@ fn changed_items_are_refused(rt: HostRuntime) {
 /// The plain item in pieces.
 #[test]
 fn pieces_are_checked(rt: HostRuntime) {
-    let head = Head::read(PLAIN);
+    let text = &PLAIN[..];
+    let head = Head::read(text);
     let mut sum = Checksum::new();
     sum.add(b"1234");
     sum.add(b"56789");
-    assert!(rt; head.check(Version::V2, sum.value(), &PLAIN[29..]).is_ok());
+    let tail = &text[29..];
+    let end = 20 + u64::from(head.data_behind()) + tail.len() as u64;
+    assert!(rt; padded_len(head.size, Version::V2) <= end);
+    assert!(rt; head.check(Version::V2, sum.value(), tail).is_ok());
 }
