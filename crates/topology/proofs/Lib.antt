@@ -1,0 +1,2 @@
+mod TreeMaps
+mod Places

@@ -1,0 +1,4 @@
+pub mod Nodes
+pub mod Places
+pub mod Changes
+pub mod Told
