@@ -6,6 +6,8 @@ mod member;
 mod node;
 mod numbered;
 mod report;
+#[cfg(test)]
+mod tests;
 mod topology_of_nodes;
 
 pub use fault::TopologyFault;

@@ -1,0 +1,85 @@
+use super::*;
+use needle::Placement;
+use std::alloc::{AllocError, Global};
+use std::test::Fail;
+use weed_base::Name;
+
+fn node(alloc: Global, id: &[u8]) -> Result<Node, AllocError> {
+    Ok(Node {
+        id: Name::new(alloc, id)?,
+        public: Name::new(alloc, b"public")?,
+        data_center: Name::new(alloc, b"d1")?,
+        rack: Name::new(alloc, b"r1")?,
+        room: 8,
+    })
+}
+
+fn report(volume: u32) -> Result<VolumeReport, Fail> {
+    Ok(VolumeReport {
+        volume,
+        placement: Placement::new(0, 0, 0).ok_or("digits")?,
+        ttl: [0, 0],
+        size: 8,
+        read_only: false,
+    })
+}
+
+/// Nodes n2 and n1, of which n2 reports volume 3, and both were heard at moment 5.
+fn two_nodes(alloc: Global) -> Result<Topology, Fail> {
+    let mut topology = Topology::new(alloc);
+    topology.join(alloc, node(alloc, b"n2")?, 0)?;
+    topology.join(alloc, node(alloc, b"n1")?, 5)?;
+    topology.beat(alloc, &Name::new(alloc, b"n2")?, &[report(3)?], 5)?;
+    Ok(topology)
+}
+
+/// Whether the volume is reached at just these addresses.
+fn is_at(topology: &Topology, alloc: Global, volume: u32, urls: &[&[u8]]) -> Result<bool, Fail> {
+    let locations = topology.locations(alloc, volume)?;
+    if locations.len() != urls.len() {
+        return Ok(false);
+    }
+    for (location, url) in locations.iter().zip(urls) {
+        if location.url.as_slice() != *url {
+            return Ok(false);
+        }
+    }
+    Ok(true)
+}
+
+#[test]
+fn a_volume_is_reached_in_the_order_of_ids(rt: HostRuntime) -> Result<(), Fail> {
+    let mut topology = two_nodes(rt.alloc())?;
+    assert!(rt; is_at(&topology, rt.alloc(), 3, &[b"n2"])?);
+    topology.add(&Name::new(rt.alloc(), b"n1")?, report(3)?)?;
+    assert!(rt; is_at(&topology, rt.alloc(), 3, &[b"n1", b"n2"])?);
+    Ok(())
+}
+
+#[test]
+fn a_node_that_joins_again_keeps_its_reports(rt: HostRuntime) -> Result<(), Fail> {
+    let mut topology = two_nodes(rt.alloc())?;
+    topology.join(rt.alloc(), node(rt.alloc(), b"n2")?, 9)?;
+    assert!(rt; is_at(&topology, rt.alloc(), 3, &[b"n2"])?);
+    Ok(())
+}
+
+#[test]
+fn a_silent_node_leaves_after_25_seconds(rt: HostRuntime) -> Result<(), Fail> {
+    let mut topology = two_nodes(rt.alloc())?;
+    topology.expire(25_000_000_005);
+    assert!(rt; is_at(&topology, rt.alloc(), 3, &[b"n2"])?);
+    topology.expire(25_000_000_006);
+    assert!(rt; is_at(&topology, rt.alloc(), 3, &[])?);
+    Ok(())
+}
+
+#[test]
+fn a_node_that_is_not_there_cannot_leave(rt: HostRuntime) -> Result<(), Fail> {
+    let mut topology = two_nodes(rt.alloc())?;
+    let unknown = topology.leave(&Name::new(rt.alloc(), b"n4")?);
+    assert!(rt; unknown == Err(TopologyFault::UnknownNode));
+    topology.leave(&Name::new(rt.alloc(), b"n2")?)?;
+    assert!(rt; is_at(&topology, rt.alloc(), 3, &[])?);
+    Ok(())
+}
