@@ -1,2 +1,3 @@
 mod TreeMaps
 mod Places
+mod Merges

@@ -9,6 +9,7 @@ mod report;
 #[cfg(test)]
 mod tests;
 mod topology_of_nodes;
+mod volumes;
 
 pub use fault::TopologyFault;
 pub use member::Member;

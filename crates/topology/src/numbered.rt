@@ -1,10 +1,10 @@
 ghost use Rattle.std.specs.Prelude.{◌≡◌, OnOk, OnErr};
 ghost use Rattle.std.specs.Option.{option_copied};
-ghost use Rattle.std.specs.FinMap.{get, empty, insert, len, values};
+ghost use Rattle.std.specs.FinMap.{get, empty, entries, insert, len, values};
 
 use std::alloc::{AllocError, Global};
 use std::collections::BTreeMap;
-use std::collections::btree_map::Values;
+use std::collections::btree_map::{Iter, Values};
 use std::marker::Model;
 
 /// Values by their numbers.
@@ -54,6 +54,13 @@ impl<V> Numbered<V> {
         ensures { result ≡ values self.now }
     {
         self.map.values()
+    }
+
+    /// The numbers, rising, each with its value. Takes no memory.
+    pub fn entries(&self) -> Iter<'_, u32, V>
+        ensures { result ≡ entries self.now }
+    {
+        self.map.iter()
     }
 
     /// Gives a number this value, in place of one that it has. An `Err` changes nothing.

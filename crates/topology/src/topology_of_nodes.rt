@@ -1,13 +1,14 @@
 ghost use Rattle.std.specs.Prelude.{◌≡◌, ◌≤◌, None, IfErr, IfOk, OnOk, OnErr, MatchOption};
 ghost use Rattle.std.specs.FinMap.{empty, get, len, remove};
 ghost use Rattle.topology.specs.Changes.{joined, beaten, with_report, reports_of, IsJoinFault, NeedsNode, AreHeard};
-ghost use Rattle.topology.specs.Told.{locations_of, locations_in};
+ghost use Rattle.topology.specs.Told.{locations_of, locations_in, AreFirstReports};
 
 use crate::fault::TopologyFault;
 use crate::member::{Member, Seat, find_seat};
 use crate::node::{Location, Node};
 use crate::numbered::Numbered;
 use crate::report::VolumeReport;
+use crate::volumes::first_reports;
 use std::alloc::{AllocError, Global};
 use std::marker::Model;
 use weed_base::Name;
@@ -130,6 +131,14 @@ impl Topology {
         let member = &mut self.members[at];
         member.reports.insert(report.volume, report)?;
         Ok(())
+    }
+
+    /// One report for each volume that is reported, by rising volume: that of the first node, by id, that reports it.
+    pub fn volumes(&self, alloc: Global) -> Result<Vec<VolumeReport>, AllocError>
+        ensures { IfOk result (λ volumes. AreFirstReports self.now volumes.items) }
+    {
+        let reports = first_reports(alloc, &self.members)?;
+        reports.values().copied().collect(alloc)
     }
 
     /// Where a volume is reached, in the order of node ids.
