@@ -1,3 +1,4 @@
 mod TreeMaps
 mod Places
 mod Merges
+mod Tallies

@@ -2,3 +2,5 @@ pub mod Nodes
 pub mod Places
 pub mod Changes
 pub mod Told
+pub mod Writable
+pub mod Tallies

@@ -10,6 +10,7 @@ mod report;
 mod tests;
 mod topology_of_nodes;
 mod volumes;
+mod writable;
 
 pub use fault::TopologyFault;
 pub use member::Member;

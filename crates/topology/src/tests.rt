@@ -83,3 +83,44 @@ fn a_node_that_is_not_there_cannot_leave(rt: HostRuntime) -> Result<(), Fail> {
     assert!(rt; is_at(&topology, rt.alloc(), 3, &[])?);
     Ok(())
 }
+
+#[test]
+fn a_volume_is_told_once(rt: HostRuntime) -> Result<(), Fail> {
+    let mut topology = two_nodes(rt.alloc())?;
+    topology.add(&Name::new(rt.alloc(), b"n1")?, report(3)?)?;
+    let volumes = topology.volumes(rt.alloc())?;
+    assert!(rt; volumes.len() == 1 && volumes[0] == report(3)?);
+    Ok(())
+}
+
+/// Whether volume 3 alone may be written, or none.
+fn writes_to_3(topology: &Topology, alloc: Global, limit: u64) -> Result<bool, Fail> {
+    let placement = Placement::new(0, 1, 0).ok_or("digits")?;
+    let volumes = topology.writable(alloc, placement, [0, 0], limit)?;
+    Ok(volumes.len() == 1 && volumes[0] == 3)
+}
+
+/// What a node tells of volume 3, of which a copy is kept in another rack.
+fn copied(size: u64, read_only: bool) -> Result<VolumeReport, Fail> {
+    Ok(VolumeReport {
+        volume: 3,
+        placement: Placement::new(0, 1, 0).ok_or("digits")?,
+        ttl: [0, 0],
+        size,
+        read_only,
+    })
+}
+
+#[test]
+fn a_volume_with_each_of_its_copies_is_writable(rt: HostRuntime) -> Result<(), Fail> {
+    let mut topology = two_nodes(rt.alloc())?;
+    let (n1, n2) = (Name::new(rt.alloc(), b"n1")?, Name::new(rt.alloc(), b"n2")?);
+    topology.add(&n2, copied(8, false)?)?;
+    assert!(rt; !writes_to_3(&topology, rt.alloc(), 10)?);
+    topology.add(&n1, copied(9, false)?)?;
+    assert!(rt; writes_to_3(&topology, rt.alloc(), 10)?);
+    assert!(rt; !writes_to_3(&topology, rt.alloc(), 9)?);
+    topology.add(&n1, copied(9, true)?)?;
+    assert!(rt; !writes_to_3(&topology, rt.alloc(), 10)?);
+    Ok(())
+}

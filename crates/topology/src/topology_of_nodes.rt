@@ -2,6 +2,7 @@ ghost use Rattle.std.specs.Prelude.{◌≡◌, ◌≤◌, None, IfErr, IfOk, OnO
 ghost use Rattle.std.specs.FinMap.{empty, get, len, remove};
 ghost use Rattle.topology.specs.Changes.{joined, beaten, with_report, reports_of, IsJoinFault, NeedsNode, AreHeard};
 ghost use Rattle.topology.specs.Told.{locations_of, locations_in, AreFirstReports};
+ghost use Rattle.topology.specs.Writable.{AreWritable};
 
 use crate::fault::TopologyFault;
 use crate::member::{Member, Seat, find_seat};
@@ -9,6 +10,8 @@ use crate::node::{Location, Node};
 use crate::numbered::Numbered;
 use crate::report::VolumeReport;
 use crate::volumes::first_reports;
+use crate::writable::{Kind, writable_volumes};
+use needle::Placement;
 use std::alloc::{AllocError, Global};
 use std::marker::Model;
 use weed_base::Name;
@@ -139,6 +142,25 @@ impl Topology {
     {
         let reports = first_reports(alloc, &self.members)?;
         reports.values().copied().collect(alloc)
+    }
+
+    /// The volumes of this placement and time to live that may be written, rising: as many nodes report each as its
+    /// placement wants, none as read-only, and each with a size below the limit, in bytes.
+    pub fn writable(
+        &self,
+        alloc: Global,
+        placement: Placement,
+        ttl: [u8; 2],
+        limit: u64,
+    ) -> Result<Vec<u32>, AllocError>
+        ensures { IfOk result (λ volumes. AreWritable placement ttl limit self.now volumes.items) }
+    {
+        let kind = Kind {
+            placement,
+            ttl,
+            limit,
+        };
+        writable_volumes(alloc, &self.members, &kind)
     }
 
     /// Where a volume is reached, in the order of node ids.
