@@ -1,12 +1,10 @@
 -- Reports of one node laid over those of others.
-use Rattle.std.proofs.Common.{◌≡◌, ℕ, zero, suc, ◌+◌, ◌<◌, Bool, true, false, cond, List, [], ◌∷◌, take, Ordering, Option, Some, None, length, get_or, is_some, sym, refl, ap, ◌∙◌, subst, arith, Bor}
+use Rattle.std.proofs.Common.{◌≡◌, ℕ, zero, suc, ◌<◌, Bool, true, false, cond, List, [], ◌∷◌, take, Ordering, Option, Some, None, length, get_or, is_some, sym, refl, ap, ◌∙◌, arith, Bor}
 use Rattle.std.specs.Ordering.{nat_cmp, eq_by_cmp, is_eq}
 use Rattle.std.specs.declared.cmp.Ordering.TheVariants.{Less, Equal, Greater}
 use Rattle.std.specs.Option.{option_or, option_copied}
 use Rattle.std.specs.Cmp.{nat_cmp_total}
-use Rattle.std.proofs.lemmas.Bool.Decides.{nat_tests}
-use Rattle.std.specs.FinMap as fin
-use Rattle.std.specs.FinMap.{FinMap, nat_cmp-IsAntisymmetric, get, insert, get-insert, get_tied}
+use Rattle.std.specs.FinMap.{get, insert, get-insert, get_tied}
 use Rattle.std.specs.FinMap.Entries.{find}
 use Rattle.topology.specs.Told.{first_report}
 use Rattle.topology.specs.Nodes.{Reports}

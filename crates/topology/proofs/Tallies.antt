@@ -1,5 +1,5 @@
 -- What nodes tell of each volume, one node after another.
-use Rattle.std.proofs.Common.{◌≡◌, ℕ, zero, suc, ◌+◌, ◌-◌, ◌<◌, ◌≤◌, Bool, true, false, cond, not, ◌&&◌, ◌||◌, eqb, leb, nat_eq, nat_lt, nat_le, List, [], ◌∷◌, take, filter, map, Ordering, Option, Some, None, length, get_or, is_some, sym, refl, ap, ◌∙◌, subst, arith, Bor}
+use Rattle.std.proofs.Common.{◌≡◌, ℕ, zero, suc, ◌+◌, ◌-◌, ◌<◌, Bool, true, false, cond, ◌&&◌, ◌||◌, nat_eq, nat_le, List, [], ◌∷◌, take, filter, map, Ordering, Option, Some, None, length, get_or, is_some, sym, refl, ap, ◌∙◌, subst, arith}
 use lib.Dec.{T}
 use Rattle.std.proofs.lemmas.Bool.{eqb-true, eq-eqb, ne_eqb, leb-true, le-leb}
 use Rattle.std.specs.Ordering.{nat_cmp, eq_by_cmp, is_eq, is_lt}
@@ -8,11 +8,10 @@ use Rattle.std.specs.Option.{option_map_or, unwrap_or}
 use Rattle.std.specs.List.{list_all, list_any, AllByRecursion}
 use Rattle.std.specs.List.Sorted.{IsStrictlySortedBy}
 use Rattle.std.specs.Cmp.{nat_cmp_total, unsigned_ties}
-use Rattle.std.specs.FinMap as fin
-use Rattle.std.specs.FinMap.{FinMap, nat_cmp-IsAntisymmetric, get, insert, entries, entries_sorted, get-entries, get-insert, get_tied}
+use Rattle.std.specs.FinMap.{FinMap, nat_cmp-IsAntisymmetric, get, insert, entries, entries_sorted, get-entries, get-insert}
 use Rattle.std.specs.FinMap.Entries.{find, is_sorted, below_all}
 use Rattle.topology.specs.Told.{reports}
-use Rattle.topology.specs.Writable.{copies, is_open, allows, is_writable, AreWritableAt}
+use Rattle.topology.specs.Writable.{copies, is_open, allows, AreWritableAt}
 use Rattle.topology.specs.Tallies.{untold, told, tally_at, tally_of, is_met, met_in}
 use Rattle.topology.specs.declared.member.Member.{Member}
 use Rattle.topology.specs.declared.report.VolumeReport.{VolumeReport}

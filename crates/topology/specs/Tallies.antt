@@ -1,9 +1,9 @@
 -- What nodes tell of each volume, taken together.
-use Rattle.std.specs.Prelude.{◌≡◌, ℕ, ◌-◌, Bool, true, ◌&&◌, nat_eq, List, map, filter, length, Option, Some, None}
+use Rattle.std.specs.Prelude.{ℕ, ◌-◌, Bool, true, ◌&&◌, nat_eq, List, map, filter, length, Option, Some, None}
 use Rattle.std.specs.Option.{unwrap_or}
 use Rattle.std.specs.List.{list_all}
 use Rattle.std.specs.Ordering.{nat_cmp}
-use Rattle.std.specs.FinMap.{FinMap, get, entries}
+use Rattle.std.specs.FinMap.{FinMap, get}
 use Rattle.topology.specs.declared.report.VolumeReport.{VolumeReport}
 use Rattle.topology.specs.declared.member.Member.{Member}
 use Rattle.topology.specs.declared.writable.Kind.{Kind}

@@ -1,7 +1,7 @@
 use Rattle.std.proofs.Common.{not, sym, ap, ◌∙◌}
 use Rattle.std.specs.Option.{option_or, is_some}
 use Rattle.std.specs.Ordering.{nat_cmp}
-use Rattle.std.specs.FinMap.{get, insert, get-entries}
+use Rattle.std.specs.FinMap.{get, get-entries}
 use Rattle.std.specs.FinMap.Entries.{find}
 use Rattle.topology.proofs.Merges.{added_more, added_none, added_all, is_some-copied, none_there}
 use Rattle.topology.proofs.volumes.add_missing.Goals as goal

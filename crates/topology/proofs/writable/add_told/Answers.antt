@@ -2,10 +2,10 @@ use Rattle.std.proofs.Common.{Some, sym, ap, ◌∙◌, subst}
 use lib.Dec.{T}
 use Rattle.std.specs.Option.{unwrap_or}
 use Rattle.std.specs.Ordering.{nat_cmp}
-use Rattle.std.specs.FinMap.{get, insert, get-entries, entries_sorted}
+use Rattle.std.specs.FinMap.{get-entries, entries_sorted}
 use Rattle.std.specs.FinMap.Entries.{find, is_sorted}
 use Rattle.topology.specs.Tallies.{untold, told, tally_at}
-use Rattle.topology.proofs.Tallies.{told_more, rest_sorted, told_none}
+use Rattle.topology.proofs.Tallies.{told_more, rest_sorted}
 use Rattle.topology.proofs.writable.add_told.Goals as goal
 
 pub loop-volume-init : goal.loop-volume-init
