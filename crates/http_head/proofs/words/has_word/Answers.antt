@@ -1,0 +1,12 @@
+use Rattle.std.proofs.Common.{rules, tests, ◌∙◌, ap, sym, refl, arith}
+use Rattle.std.proofs.lemmas.Iterator.{YieldsList-from_slice}
+use Rattle.std.proofs.lemmas.Iterator.Search.{any_from_yields_List, all_from_yields_List, find_from_yields_List, YieldsList-from_take_while}
+use Rattle.std.proofs.lemmas.Iterator.Splits.{YieldsList-from_slice_split}
+use Rattle.std.specs.Prelude.{◌==◌}
+use Rattle.http_head.specs.Words.{is_word, trimmed}
+use Rattle.http_head.proofs.words.has_word.Goals as goal
+
+pub returns : goal.returns
+returns c =
+    any_from_yields_List (λ part. is_word (trimmed part) c.args.word.now) _ _ _ c.any.ensures.ran
+    (YieldsList-from_slice_split _ (λ byte. byte == 44) c.args.text.now c.split.ensures.rest c.split.ensures.done c.split.ensures.closure (λ x b q k. search (rules, tests))) (λ x b q k. search (rules, tests))

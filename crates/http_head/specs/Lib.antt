@@ -1,0 +1,6 @@
+pub mod Words
+pub mod Lines
+pub mod Target
+pub mod Range
+pub mod Body
+pub mod Request
