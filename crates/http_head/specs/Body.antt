@@ -1,5 +1,5 @@
 -- How long the body of a message is, as its header lines say.
-use Rattle.std.specs.Prelude.{◌≡◌, ℕ, ◌+◌, nat_lt, Bool, not, ◌||◌, ◌&&◌, ◌==◌, List, length, filter, Option, None, Some, if◌then◌else◌, codes, true, false}
+use Rattle.std.specs.Prelude.{ℕ, nat_lt, Bool, not, ◌||◌, ◌==◌, List, length, filter, Option, None, Some, if◌then◌else◌, codes, true, false}
 use Rattle.http_head.specs.Words.{is_word, read_number}
 use Rattle.http_head.specs.Lines.{Line, is_named, has_line, first_value}
 use Rattle.http_head.specs.declared.body.BodyKind.{BodyKind}

@@ -4,3 +4,4 @@ pub mod Target
 pub mod Range
 pub mod Body
 pub mod Request
+pub mod Seen

@@ -1,5 +1,5 @@
 -- The header lines of a head: a name and a value each, the value without the blanks around it.
-use Rattle.std.specs.Prelude.{ℕ, Bool, ◌&&◌, not, List, Option, option_map}
+use Rattle.std.specs.Prelude.{ℕ, Bool, ◌&&◌, List, Option, option_map}
 use Rattle.std.specs.List.{list_any, find}
 use Rattle.http_head.specs.Words.{is_word}
 

@@ -1,7 +1,7 @@
 -- The head of a request, and what it is taken as.
-use Rattle.std.specs.Prelude.{◌≡◌, ℕ, ◌<◌, ◌≤◌, ◌⊎◌, Bool, ◌||◌, ◌==◌, not, nat_lt, List, [], length, map, drop, take, Option, None, Some, Result, Ok, Err, if◌then◌else◌, codes, unwrap_or, ◌≢◌}
+use Rattle.std.specs.Prelude.{◌≡◌, ℕ, ◌⊎◌, Bool, ◌||◌, ◌==◌, not, nat_lt, List, [], length, map, Option, None, Some, Result, Ok, Err, if◌then◌else◌, codes, unwrap_or}
 use Rattle.std.specs.Str.{bytes_eq}
-use Rattle.httparse.specs.Grammar.{RequestHead, ReadsRequest, print_request, HasNoRequest, NeverHasRequest, MayBecomeRequest, EndsInTarget}
+use Rattle.httparse.specs.Grammar.{RequestHead}
 use Rattle.httparse.specs.Spans.{name_and_value}
 use Rattle.http_head.specs.Words.{is_word, has_word}
 use Rattle.http_head.specs.Lines.{Line, has_line, first_value}
@@ -12,8 +12,9 @@ use Rattle.http_head.specs.declared.body.BodyKind.{BodyKind}
 use Rattle.http_head.specs.declared.head.Method.{Method}
 use Rattle.http_head.specs.declared.head.Method.TheVariants.{Get, Head as HeadMethod, Put, Post, Delete}
 use Rattle.http_head.specs.declared.head.Head.{Head}
+use Rattle.http_head.specs.declared.judge.Checked.{Checked}
 use Rattle.http_head.specs.declared.fault.HeadFault.{HeadFault}
-use Rattle.http_head.specs.declared.fault.HeadFault.TheVariants.{Bad, HeadTooLong, BadMethod, BadCoding}
+use Rattle.http_head.specs.declared.fault.HeadFault.TheVariants.{Bad, HeadTooLong, BadMethod, BadCoding, Memory}
 
 -- The parts of a head that its checks read.
 pub record Parts : Type 0 where
@@ -63,20 +64,32 @@ head_of method body parts = record {
 }
 
 -- The lengths are checked last.
-abbrev pub judged_body : Option BodyKind → Method → Parts → Result Head HeadFault
-judged_body (Some body) method parts = Ok (head_of method body parts)
-judged_body None method parts = Err Bad
+abbrev pub checked_body : Option BodyKind → Method → Result Checked HeadFault
+checked_body (Some body) method = Ok (record { method = method; body = body })
+checked_body None method = Err Bad
 
 -- The transfer coding is checked behind the method.
-abbrev pub judged_method : Option Method → Parts → Result Head HeadFault
-judged_method (Some method) parts =
-    if has_other_coding parts.lines then Err BadCoding else judged_body (body_of parts.lines) method parts
-judged_method None parts = Err BadMethod
+abbrev pub checked_method : Option Method → List Line → Result Checked HeadFault
+checked_method (Some method) lines = if has_other_coding lines then Err BadCoding else checked_body (body_of lines) method
+checked_method None lines = Err BadMethod
 
--- What a whole head is taken as, or the first check that it fails: its escapes, the number of its lines, its
--- method, its transfer coding, its lengths.
-abbrev pub judged : Parts → Result Head HeadFault
-judged parts =
+-- The method and the body of a whole head, or the first check that it fails: its escapes, the number of its
+-- lines, its method, its transfer coding, its lengths.
+abbrev pub checked : Parts → Result Checked HeadFault
+checked parts =
     if not (is_well_escaped parts.target) then Err Bad
     else if nat_lt 64 (length parts.lines) then Err HeadTooLong
-    else judged_method (method_of parts.method) parts
+    else checked_method (method_of parts.method) parts.lines
+
+-- A head that passed its checks.
+abbrev pub taken : Result Checked HeadFault → Parts → Result Head HeadFault
+taken (Ok found) parts = Ok (head_of found.method found.body parts)
+taken (Err fault) parts = Err fault
+
+-- What a whole head of these parts is taken as, or refused with.
+abbrev pub judged : Parts → Result Head HeadFault
+judged parts = taken (checked parts) parts
+
+-- The answer is that one, or memory was wanting.
+abbrev pub IsJudged : Parts → Result Head HeadFault → Type 0
+IsJudged parts result = (result ≡ judged parts) ⊎ (result ≡ Err Memory)

@@ -4,6 +4,7 @@
 mod body;
 mod fault;
 mod head;
+mod judge;
 mod lines;
 mod range;
 mod target;

@@ -1,12 +1,12 @@
-use Rattle.std.proofs.Common.{rules, tests, ◌∙◌, ap, sym, refl, arith}
+use Rattle.std.proofs.Common.{rules, tests, ◌∙◌}
 use Rattle.std.proofs.lemmas.Iterator.{YieldsList-from_slice}
-use Rattle.std.proofs.lemmas.Iterator.Search.{any_from_yields_List, all_from_yields_List, find_from_yields_List, YieldsList-from_take_while}
-use Rattle.std.specs.Prelude.{◌&&◌, not, true, codes, nat_lt, count_by}
+use Rattle.std.proofs.lemmas.Iterator.Search.{any_from_yields_List}
+use Rattle.std.specs.Prelude.{◌&&◌, not}
 use Rattle.httparse.specs.Borrowed.{header_parts}
 use Rattle.http_head.specs.Lines.{Line, is_named}
-use Rattle.http_head.specs.Words.{is_word, read_number}
-use Rattle.http_head.specs.Body.{coding_name, length_name, is_that}
-use Rattle.http_head.proofs.LineLemmas.{any_line, count_lines, first_line}
+use Rattle.http_head.specs.Words.{read_number}
+use Rattle.http_head.specs.Body.{length_name, is_that}
+use Rattle.http_head.proofs.LineLemmas.{any_line}
 use Rattle.http_head.proofs.body.has_other_length.Goals as goal
 
 pub returns : goal.returns

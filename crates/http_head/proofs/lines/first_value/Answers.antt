@@ -1,5 +1,4 @@
-use Rattle.std.proofs.Common.{◌≡◌, rules, tests, ◌∙◌, ap, sym, option_map}
-use Rattle.std.specs.List.{find}
+use Rattle.std.proofs.Common.{rules, tests, ◌∙◌, ap, sym, option_map}
 use Rattle.std.proofs.lemmas.Iterator.{YieldsList-from_slice}
 use Rattle.std.proofs.lemmas.Iterator.Search.{find_from_yields_List}
 use Rattle.httparse.specs.Borrowed.{header_parts}

@@ -1,4 +1,4 @@
-use Rattle.std.proofs.Common.{◌≡◌, get_or, ◌∙◌, rules, arith}
+use Rattle.std.proofs.Common.{arith}
 use Rattle.http_head.proofs.NumberLemmas.{capped_more}
 use Rattle.http_head.proofs.words.capped_value.Goals as goal
 

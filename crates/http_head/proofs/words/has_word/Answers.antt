@@ -1,6 +1,5 @@
-use Rattle.std.proofs.Common.{rules, tests, ◌∙◌, ap, sym, refl, arith}
-use Rattle.std.proofs.lemmas.Iterator.{YieldsList-from_slice}
-use Rattle.std.proofs.lemmas.Iterator.Search.{any_from_yields_List, all_from_yields_List, find_from_yields_List, YieldsList-from_take_while}
+use Rattle.std.proofs.Common.{rules, tests}
+use Rattle.std.proofs.lemmas.Iterator.Search.{any_from_yields_List}
 use Rattle.std.proofs.lemmas.Iterator.Splits.{YieldsList-from_slice_split}
 use Rattle.std.specs.Prelude.{◌==◌}
 use Rattle.http_head.specs.Words.{is_word, trimmed}

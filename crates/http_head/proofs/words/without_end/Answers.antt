@@ -1,9 +1,8 @@
-use Rattle.std.proofs.Common.{rules, tests, ◌∙◌, ap, sym, refl, arith}
-use Rattle.std.proofs.lemmas.Iterator.{YieldsList-from_slice}
-use Rattle.std.proofs.lemmas.Iterator.Search.{any_from_yields_List, all_from_yields_List, find_from_yields_List, YieldsList-from_take_while}
+use Rattle.std.proofs.Common.{rules, tests, ◌∙◌, ap}
+use Rattle.std.proofs.lemmas.Iterator.Search.{YieldsList-from_take_while}
 use Rattle.std.proofs.lemmas.Iterator.Consumers.{count_from_yields_List}
 use Rattle.std.proofs.lemmas.List.Folds.{length-prefix_len}
-use Rattle.std.specs.Prelude.{ℕ, ◌-◌, ◌==◌, not, length, take, drop, reverse}
+use Rattle.std.specs.Prelude.{◌-◌, length, take, reverse}
 use Rattle.http_head.specs.Words.{is_blank}
 use Rattle.std.proofs.lemmas.Iterator.Adapters.{YieldsList-from_rev_slice}
 use Rattle.http_head.proofs.words.without_end.Goals as goal
