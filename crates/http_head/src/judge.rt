@@ -19,8 +19,8 @@ use weed_base::Bytes;
 pub const MAX_LINES: usize = 64;
 
 /// The parts of a head that its checks read.
-#[derive(Clone, Copy)]
-pub struct Parts<'a> {
+#[derive(Clone, Copy, Debug)]
+pub struct HeadParts<'a> {
     pub method: &'a str,
     pub target: &'a str,
     pub minor: u8,
@@ -66,7 +66,7 @@ fn head_of(
     alloc: Global,
     method: Method,
     body: BodyKind,
-    parts: Parts<'_>,
+    parts: HeadParts<'_>,
 ) -> Result<Head, AllocError>
     ensures { IfOk result (λ head. head ≡ head_of method body (seen parts.entry)) }
 {
@@ -87,7 +87,7 @@ fn head_of(
 }
 
 /// The checks of a whole head, in their order.
-fn check(parts: Parts<'_>) -> Result<Checked, HeadFault>
+fn check(parts: HeadParts<'_>) -> Result<Checked, HeadFault>
     ensures { result ≡ checked (seen parts.entry) }
 {
     if !is_well_escaped(parts.target.as_bytes()) {
@@ -109,7 +109,7 @@ fn check(parts: Parts<'_>) -> Result<Checked, HeadFault>
 }
 
 /// What a whole head is taken as, or the first check that it fails.
-pub fn judge(alloc: Global, parts: Parts<'_>) -> Result<Head, HeadFault>
+pub fn judge_head(alloc: Global, parts: HeadParts<'_>) -> Result<Head, HeadFault>
     ensures { IsJudged (seen parts.entry) result }
 {
     let Checked { method, body } = check(parts)?;

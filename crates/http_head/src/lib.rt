@@ -10,7 +10,11 @@ mod range;
 mod target;
 mod words;
 
-pub use body::BodyKind;
+pub use body::{BodyKind, body_of, has_other_coding};
 pub use fault::HeadFault;
-pub use head::{Head, HeadQuery, Method};
-pub use range::RangeWish;
+pub use head::{Head, HeadQuery, Method, method_of};
+pub use judge::{HeadParts, MAX_LINES, judge_head};
+pub use lines::{first_value, is_named};
+pub use range::{RangeWish, wish_of};
+pub use target::{is_well_escaped, path_of, query_of};
+pub use words::{back_of, front_of, has_word, is_word, place_of, read_number};
