@@ -1,3 +1,4 @@
 pub mod LineLemmas
 pub mod TargetLemmas
 pub mod NumberLemmas
+pub mod FrontLemmas

@@ -5,3 +5,4 @@ pub mod Range
 pub mod Body
 pub mod Request
 pub mod Seen
+pub mod Front

@@ -3,6 +3,7 @@
 
 mod body;
 mod fault;
+mod front;
 mod head;
 mod judge;
 mod lines;
@@ -12,6 +13,7 @@ mod words;
 
 pub use body::{BodyKind, body_of, has_other_coding};
 pub use fault::HeadFault;
+pub use front::{Front, MAX_HEAD, read_front};
 pub use head::{Head, HeadQuery, Method, method_of};
 pub use judge::{HeadParts, MAX_LINES, judge_head};
 pub use lines::{first_value, is_named};
