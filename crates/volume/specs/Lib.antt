@@ -1,0 +1,5 @@
+pub mod Faults
+pub mod FileNames
+pub mod Contents
+pub mod Holds
+pub mod Making
