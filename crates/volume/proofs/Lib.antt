@@ -1,3 +1,4 @@
 pub mod FileNames
 pub mod Told
 pub mod Named
+pub mod Created

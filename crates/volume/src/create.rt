@@ -1,13 +1,17 @@
-ghost use Rattle.std.specs.Prelude.{◌≡◌, ◌↔◌, IsTrue, IfOk, IfSome, OnOk, false};
+ghost use Rattle.std.specs.Prelude.{◌≡◌, ◌↔◌, ◌⊎◌, IsTrue, IsOk, IsErrOf, IfOk, IfErr, IfSome, OnOk, Err, false, []};
 ghost use Rattle.std.specs.Option.{option_map};
-ghost use Rattle.weed_base.specs.Told.{HasCause};
-ghost use Rattle.weed_base.specs.Files.{BothTold, IsThere, MayBeNamed, made, removed};
+ghost use Rattle.weed_base.specs.Told.{HasCause, IsCauseOf};
+ghost use Rattle.weed_base.specs.Files.{BothTold, MayBeNamed, made, removed};
 ghost use Rattle.weed_base.specs.DiskCalls.{Looks};
-ghost use Rattle.volume.specs.FileNames.{name_of};
-ghost use Rattle.volume.specs.Making.{ChangesOnly, IsVolumeThere, made_with};
-ghost use Rattle.volume.specs.declared.file_names.Part.TheVariants.{Items, Sign};
+ghost use Rattle.volume.specs.Holds.{Holds};
+ghost use Rattle.volume.specs.Making.{ChangesOnly, IsNew, IsVolumeThere, LeavesOthers, created, made_with};
 
+use crate::fault::VolumeFault;
 use crate::file_names::{Part, file_name};
+use crate::held::{Mode, Volume};
+use needle::{Placement, SuperBlock, Version};
+use needle_index::IndexMap;
+use std::alloc::Global;
 use weed_base::{Disk, Failed, FileName};
 
 /// Whether the volume is there.
@@ -23,11 +27,7 @@ pub(crate) fn is_there<D: Disk>(disk: &mut D, id: u32) -> Result<bool, Failed>
 }
 
 /// Makes a file anew, with these bytes.
-pub(crate) fn make_with<D: Disk>(
-    disk: &mut D,
-    name: &FileName,
-    bytes: &[u8],
-) -> Result<(), Failed>
+pub(crate) fn make_with<D: Disk>(disk: &mut D, name: &FileName, bytes: &[u8]) -> Result<(), Failed>
     requires { MayBeNamed D.MARKS_ONLY name.now }
     ensures files { OnOk result (D.files disk.new ≡ option_map (made_with name.now bytes.now) (D.files disk.old)) }
     ensures others { BothTold (ChangesOnly name.now) (D.files disk.old) (D.files disk.new) }
@@ -59,4 +59,63 @@ pub(crate) fn remove_settled<D: Disk>(disk: &mut D, name: &FileName) -> Result<(
 {
     disk.remove(name)?;
     disk.sync()
+}
+
+/// Makes the files of a new volume, whose items begin with this text; its sign comes last.
+fn make_files<D: Disk>(disk: &mut D, id: u32, text: &[u8]) -> Result<(), Failed>
+    requires { D.MARKS_ONLY ≡ false }
+    ensures files { OnOk result (D.files disk.new ≡ option_map (created id text.now) (D.files disk.old)) }
+    ensures others { BothTold (LeavesOthers id) (D.files disk.old) (D.files disk.new) }
+    ensures cause { HasCause (D.faults disk.old) (D.faults disk.new) result }
+    ensures beside { D.beside disk.new ≡ D.beside disk.old }
+{
+    let sign = file_name(id, Part::Sign);
+    remove_settled(disk, &sign)?;
+    make_with(disk, &file_name(id, Part::Items), text)?;
+    make_settled(disk, &file_name(id, Part::Index))?;
+    make_settled(disk, &sign)
+}
+
+impl Volume {
+    /// Makes an empty volume of version 3 and revision 0. After a `DiskFault` its files may be there in part, and it
+    /// isn't there, or it is there and empty. Takes no memory.
+    pub fn create<D: Disk>(
+        alloc: Global,
+        disk: &mut D,
+        id: u32,
+        placement: Placement,
+        ttl: [u8; 2],
+    ) -> Result<Volume, VolumeFault>
+        requires { D.MARKS_ONLY ≡ false }
+        ensures made { IfOk result (IsNew id placement ttl) }
+        ensures held { IfOk result (λ volume. IfSome (D.files disk.new) (Holds volume [])) }
+        ensures there { result ≡ Err VolumeFault.AlreadyThere → IfSome (D.files disk.old) (IsVolumeThere id) }
+        ensures free { IsOk result → IfSome (D.files disk.old) (λ told. ¬ IsVolumeThere id told) }
+        ensures refusals { IfErr result (λ fault. (fault ≡ VolumeFault.AlreadyThere) ⊎ (fault ≡ VolumeFault.DiskFault)) }
+        ensures same { result ≡ Err VolumeFault.AlreadyThere → D.files disk.new ≡ D.files disk.old }
+        ensures others { BothTold (LeavesOthers id) (D.files disk.old) (D.files disk.new) }
+        ensures cause { IsCauseOf (D.faults disk.old) (D.faults disk.new) (IsErrOf result VolumeFault.DiskFault) }
+        ensures beside { D.beside disk.new ≡ D.beside disk.old }
+    {
+        if is_there(disk, id)? {
+            return Err(VolumeFault::AlreadyThere);
+        }
+        let block = SuperBlock {
+            version: Version::V3,
+            placement,
+            ttl,
+            revision: 0,
+        };
+        make_files(disk, id, &block.write())?;
+        Ok(Volume {
+            id,
+            block,
+            mode: Mode::ReadWrite,
+            end: 8,
+            index_end: 0,
+            greatest: 0,
+            index: IndexMap::new(alloc),
+            broken: false,
+        })
+    }
 }

@@ -1,3 +1,5 @@
+ghost use Rattle.std.specs.Prelude.{◌≡◌};
+
 use needle::SuperBlock;
 use needle_index::IndexMap;
 
@@ -23,4 +25,20 @@ pub struct Volume {
     pub(crate) index: IndexMap,
     /// A writing call met a fault of the disk.
     pub(crate) broken: bool,
+}
+
+impl Volume {
+    /// The place behind the last item, in bytes. Takes no memory.
+    pub fn end(&self) -> u64
+        ensures { result ≡ self.now.end }
+    {
+        self.end
+    }
+
+    /// The greatest key of an item, a deletion too, and 0 where there is none. Takes no memory.
+    pub fn greatest_key(&self) -> u64
+        ensures { result ≡ self.now.greatest }
+    {
+        self.greatest
+    }
 }
