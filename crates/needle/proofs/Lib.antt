@@ -11,3 +11,4 @@ pub mod Verdicts
 pub mod Apart
 pub mod Slices
 pub mod Pieced
+pub mod Followed

@@ -38,7 +38,7 @@ unfolding read_at
 read_at-whole version text whole =
     ap (λ (b : Bool). cond b (Err Truncated) (wrapped version text (inner version text))) (le-ltb (length text) (padded version (size_in text)) whole)
 
-read_at-truncated : (version : Version) (text : List ℕ) → length text < padded version (size_in text) → read_at version text ≡ Err Truncated
+pub read_at-truncated : (version : Version) (text : List ℕ) → length text < padded version (size_in text) → read_at version text ≡ Err Truncated
 unfolding read_at
 read_at-truncated version text short =
     ap (λ (b : Bool). cond b (Err Truncated) (wrapped version text (inner version text))) (lt-ltb (length text) (padded version (size_in text)) short)

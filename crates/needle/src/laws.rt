@@ -20,3 +20,8 @@ pub fn no_item_begins_another()
 pub fn items_are_read()
     ensures { (version : Version) (text : List ℕ) (read : ReadItem) → AreBytes text → (read_at version text ≡ Ok read) ↔ BeginsWith version text read }
 {}
+
+/// What follows an item is not read.
+pub fn what_follows_is_not_read()
+    ensures { (version : Version) (text more : List ℕ) (read : ReadItem) → read_at version text ≡ Ok read → read_at version (text ++ more) ≡ Ok read }
+{}

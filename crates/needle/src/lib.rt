@@ -26,7 +26,7 @@ pub use fault::NeedleFault;
 pub use framing::Framed;
 pub use head::Head;
 pub use item::{Item, Needle, ReadItem};
-pub use laws::{items_are_read, no_item_begins_another};
+pub use laws::{items_are_read, no_item_begins_another, what_follows_is_not_read};
 pub use placement::Placement;
 pub use superblock::SuperBlock;
 pub use version::{Version, padded_len};

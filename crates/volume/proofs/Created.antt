@@ -1,9 +1,9 @@
 -- The files of a new volume hold it.
 use Rattle.std.proofs.Common.{◌≡◌, ◌≢◌, ℕ, ◌+◌, Bool, true, List, [], ◌∷◌, ◌++◌, length, get_or, take, drop, refl, sym, ◌∙◌, ap, subst, arith, Option, Some, None, Err, decimal}
-use Rattle.std.specs.Prelude.{IsSome, is_some, codes, unwrap_or}
+use Rattle.std.specs.Prelude.{is_some}
 use Rattle.std.specs.FinMap.{get, empty}
 use Rattle.std.proofs.lemmas.List.{append-nil, append_cancel_left, take_all, nil_from_length, length-append, length-drop}
-use Rattle.weed_base.specs.Files.{Files, content, made, removed, written, spliced, BothTold}
+use Rattle.weed_base.specs.Files.{Files, content, made, removed, spliced}
 use Rattle.needle.specs.SuperBlock.{superblock_text}
 use Rattle.needle.specs.declared.fault.NeedleFault.TheVariants.{Truncated}
 use Rattle.needle.specs.declared.placement.Placement.{Placement}
@@ -12,13 +12,11 @@ use Rattle.needle.specs.declared.version.Version.TheVariants.{V3}
 use Rattle.needle.specs.Reading.{read_at}
 use Rattle.needle_index.specs.Text.{spots_of, entered_all}
 use Rattle.volume.specs.declared.file_names.Part.{Part}
-use Rattle.volume.specs.declared.file_names.Part.TheVariants.{Items, Index, Sign, Copy}
-use Rattle.volume.specs.declared.held.Mode.{Mode}
-use Rattle.volume.specs.declared.held.Mode.TheVariants.{ReadWrite}
+use Rattle.volume.specs.declared.file_names.Part.TheVariants.{Items, Index, Sign}
 use Rattle.volume.specs.declared.held.Volume.{Volume}
-use Rattle.volume.specs.Contents.{AreItems, HoldsAt}
+use Rattle.volume.specs.Contents.{AreItems}
 use Rattle.volume.specs.FileNames.{ending, name_of}
-use Rattle.volume.specs.Holds.{Holds, HasItems, IsWritable}
+use Rattle.volume.specs.Holds.{Holds, IsWritable}
 use Rattle.volume.specs.Making.{ChangesOnly, IsNew, LeavesOthers, created, made_with, new_block}
 use Rattle.volume.proofs.Named.{get-insert_same, get-insert_other, content-insert_same}
 

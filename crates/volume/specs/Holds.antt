@@ -1,10 +1,9 @@
 -- A disk that holds a volume: its files stand for what the value says.
-use Rattle.std.specs.Prelude.{◌≡◌, ℕ, ◌+◌, ◌%◌, ◌⊎◌, List, length, take, Option, Some, IsTrue}
+use Rattle.std.specs.Prelude.{◌≡◌, ℕ, ◌%◌, ◌⊎◌, List, length, take, Some, IsTrue}
 use Rattle.std.specs.FinMap.{get}
 use Rattle.weed_base.specs.Files.{Files, IsThere}
 use Rattle.needle.specs.SuperBlock.{superblock_text}
 use Rattle.needle.specs.declared.item.ReadItem.{ReadItem}
-use Rattle.needle.specs.declared.version.Version.{Version}
 use Rattle.needle_index.specs.Text.{spots_of}
 use Rattle.volume.specs.declared.file_names.Part.TheVariants.{Items, Index, Sign}
 use Rattle.volume.specs.declared.held.Mode.{Mode}

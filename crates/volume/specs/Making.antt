@@ -1,8 +1,7 @@
 -- How a volume is made, file by file.
-use Rattle.std.specs.Prelude.{◌≡◌, ◌≢◌, ℕ, List, [], Bool, MatchResult, Result, ◌⊎◌}
+use Rattle.std.specs.Prelude.{◌≡◌, ◌≢◌, ℕ, List}
 use Rattle.std.specs.FinMap.{get, empty}
 use Rattle.weed_base.specs.Files.{Files, IsThere, made, removed, written}
-use Rattle.needle.specs.SuperBlock.{superblock_text}
 use Rattle.needle.specs.declared.placement.Placement.{Placement}
 use Rattle.needle.specs.declared.superblock.SuperBlock.{SuperBlock}
 use Rattle.needle.specs.declared.version.Version.TheVariants.{V3}

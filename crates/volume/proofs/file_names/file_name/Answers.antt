@@ -1,8 +1,7 @@
-use Rattle.std.proofs.Common.{◌≡◌, ◌∙◌, ap, sym, subst, arith, ◌++◌, List, ℕ, decimal}
+use Rattle.std.proofs.Common.{◌∙◌, ap, sym, subst, arith, ◌++◌, List, ℕ, decimal}
 use Rattle.std.specs.Prelude.{IsTrue}
 use Rattle.weed_base.specs.FileName.{is_file_name}
 use Rattle.volume.proofs.FileNames.{name_allowed, some_where}
-use Rattle.volume.specs.FileNames.{name_of, ending}
 use Rattle.volume.proofs.file_names.file_name.Goals as goal
 
 pub unwrap-requires : goal.unwrap-requires

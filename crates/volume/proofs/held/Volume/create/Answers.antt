@@ -1,4 +1,4 @@
-use Rattle.std.proofs.Common.{refl, arith, rules}
+use Rattle.std.proofs.Common.{refl, rules}
 use Rattle.volume.specs.Making.{created}
 use Rattle.volume.proofs.Told.{told_done}
 use Rattle.volume.proofs.Created.{created_holds}
