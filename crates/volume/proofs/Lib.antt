@@ -2,3 +2,4 @@ pub mod FileNames
 pub mod Told
 pub mod Named
 pub mod Created
+pub mod Appended

@@ -5,6 +5,8 @@ mod create;
 mod fault;
 mod file_names;
 mod held;
+mod laws;
 
 pub use fault::VolumeFault;
 pub use held::{Mode, Volume};
+pub use laws::{a_text_has_one_list_of_items, an_item_at_the_end_is_the_last};
