@@ -9,6 +9,7 @@ use Rattle.needle.specs.declared.fault.NeedleFault.TheVariants.{Truncated}
 use Rattle.needle.specs.declared.placement.Placement.{Placement}
 use Rattle.needle.specs.declared.item.ReadItem.{ReadItem}
 use Rattle.needle.specs.declared.version.Version.TheVariants.{V3}
+use Rattle.needle.specs.Fields.{AreBytes}
 use Rattle.needle.specs.Reading.{read_at}
 use Rattle.needle_index.specs.Text.{spots_of, entered_all}
 use Rattle.volume.specs.declared.file_names.Part.{Part}
@@ -74,14 +75,15 @@ none_held text len = λ read held.
     never : {read : ReadItem} → Err Truncated ≡ Rattle.std.proofs.Common.Ok read → ⊥
     never e = cc
 
-pub created_holds : (id : ℕ) (placement : Placement) (ttl : List ℕ) (volume : Volume) (text : List ℕ) → length ttl ≡ 2 → text ≡ superblock_text (new_block placement ttl)
+pub created_holds : (id : ℕ) (placement : Placement) (ttl : List ℕ) (volume : Volume) (text : List ℕ) → length ttl ≡ 2 → AreBytes text → text ≡ superblock_text (new_block placement ttl)
     → IsNew id placement ttl volume → (files : Files) → Holds volume [] (created id text files)
-created_holds id placement ttl volume text two is new files =
+created_holds id placement ttl volume text two bytes is new files =
     let eight : length text ≡ 8 = ap length is ∙ simp length-append (omega (arith, two)) in
     record {
       text = text;
       has = record {
         there = ap (λ n. get (created id text files) (name_of n Items)) new.id_is ∙ items_there id text files;
+        bytes = bytes;
         front = take_all 8 text (omega (arith, eight)) ∙ is ∙ ap superblock_text (sym new.block);
         are = subst (λ b. AreItems b.version text 8 []) (sym new.block) (none_held text eight);
       };

@@ -3,3 +3,4 @@ pub mod Told
 pub mod Named
 pub mod Created
 pub mod Appended
+pub mod Spots

@@ -4,6 +4,7 @@ use Rattle.std.specs.FinMap.{get}
 use Rattle.weed_base.specs.Files.{Files, IsThere}
 use Rattle.needle.specs.SuperBlock.{superblock_text}
 use Rattle.needle.specs.declared.item.ReadItem.{ReadItem}
+use Rattle.needle.specs.Fields.{AreBytes}
 use Rattle.needle_index.specs.Text.{spots_of}
 use Rattle.volume.specs.declared.file_names.Part.TheVariants.{Items, Index, Sign}
 use Rattle.volume.specs.declared.held.Mode.{Mode}
@@ -15,6 +16,7 @@ use Rattle.volume.specs.FileNames.{name_of}
 -- The file of items is there: its superblock, and these items behind it.
 pub record HasItems (volume : Volume) (items : List ReadItem) (files : Files) (text : List ℕ) : Type 0 where
   pub there : get files (name_of volume.id Items) ≡ Some text
+  pub bytes : AreBytes text
   pub front : take 8 text ≡ superblock_text volume.block
   pub are : AreItems volume.block.version text 8 items
 

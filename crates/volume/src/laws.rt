@@ -1,8 +1,11 @@
 ghost use Rattle.std.specs.Prelude.{◌≡◌, ◌+◌, ℕ, List, [], ◌∷◌, ◌++◌, length};
+ghost use Rattle.std.specs.FinMap.{get};
+ghost use Rattle.needle.specs.Fields.{AreBytes};
 ghost use Rattle.needle.specs.declared.item.ReadItem.{ReadItem};
 ghost use Rattle.needle.specs.declared.version.Version.{Version};
 ghost use Rattle.needle_index.specs.Text.{entered, entry_for};
 ghost use Rattle.volume.specs.Contents.{HoldsAt, AreItems, end_of, contents_of, index_of, stored};
+ghost use Rattle.volume.specs.Spots.{Leads};
 
 /// A text has one list of items, and so one map of contents.
 pub fn a_text_has_one_list_of_items()
@@ -17,4 +20,10 @@ pub fn an_item_at_the_end_is_the_last()
     ensures contents { (items : List ReadItem) (read : ReadItem) → contents_of (items ++ read ∷ []) ≡ stored (contents_of items) read.item }
     ensures index { (items : List ReadItem) (read : ReadItem) → index_of (items ++ read ∷ []) ≡ entered (index_of items) (entry_for (end_of 8 items) read.item) }
     ensures end { (place : ℕ) (items : List ReadItem) (read : ReadItem) → end_of place (items ++ read ∷ []) ≡ end_of place items + read.taken }
+{}
+
+/// The index of a text's items leads to the needles that they leave.
+pub fn an_index_leads_to_the_contents()
+    ensures { (version : Version) (text : List ℕ) (items : List ReadItem) (key : ℕ) → AreBytes text → AreItems version text 8 items
+        → Leads version text key (get (index_of items) key) (get (contents_of items) key) }
 {}

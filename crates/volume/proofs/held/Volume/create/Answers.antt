@@ -7,5 +7,5 @@ use Rattle.volume.proofs.held.Volume.create.Goals as goal
 pub returns-clause-held : goal.returns-clause-held
 returns-clause-held g c =
     told_done _ (created c.args.id c.write.result) _ _ c.in_ok-make_files.ensures.files
-    (created_holds c.args.id c.args.placement c.args.ttl _ c.write.result (search rules) c.write.ensures
+    (created_holds c.args.id c.args.placement c.args.ttl _ c.write.result (search rules) (λ i. search rules) c.write.ensures
     (record { id_is = refl; block = refl; mode = refl; end = refl; index_end = refl; greatest = refl; index = c.new.ensures }))
