@@ -1,0 +1,3 @@
+pub mod PutLemmas
+pub mod OrderLemmas
+pub mod TreeLemmas

@@ -1,0 +1,21 @@
+-- What a search tree of paths holds.
+use Rattle.std.specs.Prelude.{◌≡◌, true, List, [], ◌∷◌, ◌++◌}
+use Rattle.std.specs.FinMap.{is_sorted}
+use Rattle.weed_base.specs.PathOrder.{path_cmp}
+use Rattle.name_core.specs.Pages.{Named}
+use Rattle.filer_keeper.specs.declared.tree.Node.{Node}
+use Rattle.filer_keeper.specs.declared.tree.Tree.{Tree}
+use Rattle.filer_keeper.specs.declared.tree.Tree.TheVariants.{Empty, Fork'}
+
+-- The paths with their entries, from the left to the right.
+abbrev pub items : Tree → List Named
+items Empty = []
+items (Fork' p left rank path entry right) = items left ++ (path, entry) ∷ items right
+
+-- The paths strictly rise.
+abbrev pub IsSearchTree : Tree → Type 0
+IsSearchTree tree = is_sorted path_cmp (items tree) ≡ true
+
+-- The same of a node, with what is below it.
+abbrev pub node_items : Node → List Named
+node_items node = items node.left ++ (node.path, node.entry) ∷ items node.right

@@ -1,0 +1,107 @@
+ghost use Rattle.std.specs.Prelude.{◌≡◌, ◌++◌, ◌∷◌, [], IfOk};
+ghost use Rattle.std.specs.FinMap.{find, put};
+ghost use Rattle.weed_base.specs.PathOrder.{path_cmp};
+ghost use Rattle.entry.specs.declared.entry.Entry.{Entry};
+ghost use Rattle.filer_keeper.specs.Items.{IsSearchTree, items};
+
+use crate::order::order;
+use entry::Entry;
+use std::alloc::{AllocError, Global};
+use std::cmp::Ordering;
+use std::mem;
+use weed_base::Path;
+
+/// A search tree by paths, where no node has a higher rank than the one above it. With ranks as of dice it is
+/// about as deep as a balanced one.
+#[derive(Debug, Drop)]
+#[cycle(tree)]
+pub enum Tree {
+    Empty,
+    Fork(Box<Node>),
+}
+
+#[derive(Debug, Drop)]
+#[cycle(tree)]
+pub struct Node {
+    pub left: Tree,
+    pub rank: u64,
+    pub path: Path,
+    pub entry: Entry,
+    pub right: Tree,
+}
+
+impl Tree {
+    /// A copy of the entry at a path.
+    pub fn find(&self, alloc: Global, path: &Path) -> Result<Option<Entry>, AllocError>
+        ensures { IsSearchTree self.now → IfOk result (λ found. found ≡ find path_cmp path.now (items self.now)) }
+    {
+        match self {
+            Tree::Empty => Ok(None),
+            Tree::Fork(node) => match order(path, &node.path) {
+                Ordering::Less => node.left.find(alloc, path),
+                Ordering::Equal => Ok(Some(node.entry.copy(alloc)?)),
+                Ordering::Greater => node.right.find(alloc, path),
+            },
+        }
+    }
+
+    /// What stands before a path, and what stands behind it. Takes no memory.
+    pub fn split(self, at: &Path) -> (Tree, Tree)
+        ensures { (entry : Entry) → IsSearchTree self → put path_cmp at.now entry (items self) ≡ items result.0 ++ (at.now, entry) ∷ items result.1 }
+    {
+        match self {
+            Tree::Empty => (Tree::Empty, Tree::Empty),
+            Tree::Fork(mut node) => match order(at, &node.path) {
+                Ordering::Less => {
+                    let left = mem::replace(&mut node.left, Tree::Empty);
+                    let (before, behind) = left.split(at);
+                    node.left = behind;
+                    (before, Tree::Fork(node))
+                }
+                Ordering::Equal => {
+                    let Node { left, right, .. } = Box::into_inner(node);
+                    (left, right)
+                }
+                Ordering::Greater => {
+                    let right = mem::replace(&mut node.right, Tree::Empty);
+                    let (before, behind) = right.split(at);
+                    node.right = before;
+                    (Tree::Fork(node), behind)
+                }
+            },
+        }
+    }
+
+    /// What two trees hold, one behind the other. Takes no memory.
+    pub fn join(self, behind: Tree) -> Tree
+        ensures { items result ≡ items self ++ items behind }
+    {
+        match self {
+            Tree::Empty => behind,
+            Tree::Fork(mut first) => match behind {
+                Tree::Empty => Tree::Fork(first),
+                Tree::Fork(mut second) => {
+                    if first.rank < second.rank {
+                        let left = mem::replace(&mut second.left, Tree::Empty);
+                        second.left = Tree::Fork(first).join(left);
+                        Tree::Fork(second)
+                    } else {
+                        let right = mem::replace(&mut first.right, Tree::Empty);
+                        first.right = right.join(Tree::Fork(second));
+                        Tree::Fork(first)
+                    }
+                }
+            },
+        }
+    }
+
+    /// The tree with a node's entry at its path. Takes no memory.
+    pub fn put(self, mut node: Box<Node>) -> Tree
+        ensures { IsSearchTree self → items result ≡ put path_cmp node.value.path node.value.entry (items self) }
+    {
+        let (before, behind) = self.split(&node.path);
+        node.left = Tree::Empty;
+        node.right = Tree::Empty;
+        before.join(Tree::Fork(node)).join(behind)
+    }
+}
