@@ -6,19 +6,19 @@ use Rattle.std.specs.Cmp.{IsTotalOrder}
 use Rattle.std.specs.FinMap.{IsAntisymmetric, find, put, is_sorted}
 use Rattle.std.specs.FinMap.Entries.{below_all, by_order}
 
-front_so : (a b : Bool) → (a && b) ≡ true → a ≡ true
+pub front_so : (a b : Bool) → (a && b) ≡ true → a ≡ true
 front_so true b e = refl
 front_so false b e = e
 
-back_so : (a b : Bool) → (a && b) ≡ true → b ≡ true
+pub back_so : (a b : Bool) → (a && b) ≡ true → b ≡ true
 back_so true b e = e
 back_so false b e = cc
 
-both_so : (a b : Bool) → a ≡ true → b ≡ true → (a && b) ≡ true
+pub both_so : (a b : Bool) → a ≡ true → b ≡ true → (a && b) ≡ true
 both_so true b e f = f
 both_so false b e f = e
 
-is_less : (o : Ordering) → is_lt o ≡ true → o ≡ Less
+pub is_less : (o : Ordering) → is_lt o ≡ true → o ≡ Less
 is_less Less e = refl
 is_less Equal e = cc
 is_less Greater e = cc
@@ -38,7 +38,7 @@ module _ {K : Type 0} (R : K → K → Ordering) (o : IsTotalOrder R) where
   before_back k e y before back = o.trans k e y before back
 
 module _ {K X : Type 0} (R : K → K → Ordering) (o : IsTotalOrder R) (same : IsAntisymmetric R) where
-  below_all-at : (x : K) (l : List (K × X)) (e : K × X) (r : List (K × X)) → below_all R x (l ++ e ∷ r) ≡ true → R x e.0 ≡ Less
+  pub below_all-at : (x : K) (l : List (K × X)) (e : K × X) (r : List (K × X)) → below_all R x (l ++ e ∷ r) ≡ true → R x e.0 ≡ Less
   below_all-at x [] e r all = is_less _ (front_so _ _ all)
   below_all-at x (y ∷ l) e r all = below_all-at x l e r (back_so _ _ all)
 

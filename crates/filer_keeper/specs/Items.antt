@@ -1,7 +1,8 @@
 -- What a search tree of paths holds.
-use Rattle.std.specs.Prelude.{◌≡◌, true, List, [], ◌∷◌, ◌++◌}
+use Rattle.std.specs.Prelude.{◌≡◌, ℕ, true, not, List, [], ◌∷◌, ◌++◌, filter}
 use Rattle.std.specs.FinMap.{is_sorted}
 use Rattle.weed_base.specs.PathOrder.{path_cmp}
+use Rattle.name_core.specs.Namespace.{is_within}
 use Rattle.name_core.specs.Pages.{Named}
 use Rattle.filer_keeper.specs.declared.tree.Node.{Node}
 use Rattle.filer_keeper.specs.declared.tree.Tree.{Tree}
@@ -19,3 +20,7 @@ IsSearchTree tree = is_sorted path_cmp (items tree) ≡ true
 -- The same of a node, with what is below it.
 abbrev pub node_items : Node → List Named
 node_items node = items node.left ++ (node.path, node.entry) ∷ items node.right
+
+-- Without what stands at the top and below it.
+abbrev pub without : List (List ℕ) → List Named → List Named
+without top named = filter (λ item. not (is_within top item.0)) named

@@ -2,7 +2,8 @@ ghost use Rattle.std.specs.Prelude.{◌≡◌, ◌++◌, ◌∷◌, [], IfOk};
 ghost use Rattle.std.specs.FinMap.{find, put};
 ghost use Rattle.weed_base.specs.PathOrder.{path_cmp};
 ghost use Rattle.entry.specs.declared.entry.Entry.{Entry};
-ghost use Rattle.filer_keeper.specs.Items.{IsSearchTree, items};
+ghost use Rattle.filer_keeper.specs.Items.{IsSearchTree, items, without};
+ghost use Rattle.name_core.specs.Namespace.{is_within};
 
 use crate::order::order;
 use entry::Entry;
@@ -104,4 +105,43 @@ impl Tree {
         node.right = Tree::Empty;
         before.join(Tree::Fork(node)).join(behind)
     }
+
+    /// The tree without what stands at a path and below it, in time in proportion to that and to the depth. Takes
+    /// no memory.
+    pub fn without(self, top: &Path) -> Tree
+        ensures { IsSearchTree self → items result ≡ without top.now (items self) }
+    {
+        match self {
+            Tree::Empty => Tree::Empty,
+            Tree::Fork(mut node) => {
+                if stands_within(&node.path, top) {
+                    let Node { left, right, .. } = Box::into_inner(node);
+                    return left.without(top).join(right.without(top));
+                }
+                match order(top, &node.path) {
+                    Ordering::Less => {
+                        let left = mem::replace(&mut node.left, Tree::Empty);
+                        node.left = left.without(top);
+                        Tree::Fork(node)
+                    }
+                    Ordering::Equal => unreachable!(),
+                    Ordering::Greater => {
+                        let right = mem::replace(&mut node.right, Tree::Empty);
+                        node.right = right.without(top);
+                        Tree::Fork(node)
+                    }
+                }
+            }
+        }
+    }
+}
+
+/// The path is the top, or below it.
+#[tactic(auto, using(crate::proofs::WithinLemmas::within_is))]
+fn stands_within(path: &Path, top: &Path) -> bool
+    ensures { result ≡ is_within top.now path.now }
+{
+    let is_top = path.is(top);
+    let is_below = path.is_below(top);
+    is_top || is_below
 }
