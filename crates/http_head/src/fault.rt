@@ -1,5 +1,6 @@
 use std::alloc::AllocError;
 use thiserror::Error;
+use weed_base::Failed;
 
 /// Why no head, or no answer, was read.
 #[derive(Clone, Copy, Debug, PartialEq, Eq, Error)]
@@ -28,5 +29,16 @@ impl From<AllocError> for HeadFault {
 
     fn from(_: AllocError) -> Self {
         HeadFault::Memory
+    }
+}
+
+impl From<Failed> for HeadFault {
+    ghost use Rattle.std.specs.Prelude.{◌≡◌};
+    ghost use Rattle.http_head.specs.declared.fault.HeadFault.TheVariants.{ReadFault};
+
+    ghost from_gives = { λ _ fault. fault ≡ ReadFault };
+
+    fn from(_: Failed) -> Self {
+        HeadFault::ReadFault
     }
 }

@@ -1,2 +1,4 @@
 pub mod ListLemmas
 pub mod WrittenLemmas
+pub mod InboxLemmas
+pub mod NextLemmas

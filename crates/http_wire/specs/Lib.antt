@@ -1,2 +1,5 @@
 pub mod Written
 pub mod Answer
+pub mod Span
+pub mod Inbox
+pub mod Next

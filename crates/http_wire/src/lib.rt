@@ -2,9 +2,13 @@
 #![tactic(auto)]
 
 mod answer;
+mod inbox;
+mod next;
 mod session_end;
 mod write;
 
 pub use answer::{Answer, AnswerHeaders, write_response};
+pub use inbox::Inbox;
+pub use next::{Next, next_request};
 pub use session_end::SessionEnd;
 pub use write::WriteFault;
