@@ -2,10 +2,10 @@ use super::*;
 
 const PICKS: [Pick; 4] = [Pick::Old, Pick::New, Pick::Fill(0), Pick::Fill(1)];
 
-/// How many of three answers had been handed over at a tick. Each is one piece.
+/// How many answers had been handed over at a tick. Each is one piece.
 fn answered_at(host: &MemHost, tick: u64) -> usize {
     let pieces = host.pieces().iter();
-    pieces.filter(|piece| piece.tick() <= tick).count().min(3)
+    pieces.filter(|piece| piece.tick() <= tick).count()
 }
 
 /// Whether a run without input over that disk is done and leaves a log that begins as the other, but for its last
@@ -18,8 +18,9 @@ fn keeps(alloc: Global, disk: MemDisk, log: &[u8]) -> Result<bool, Fail> {
 
 /// Checks that whatever a crash at that tick leaves, it keeps what was acknowledged.
 fn check_kept(rt: &impl Abort, alloc: Global, ran: &Ran, tick: u64) -> Result<(), Fail> {
-    let answered = answered_at(&ran.host, tick) * (THREE.len() / 3);
-    let first = run_once(alloc, &THREE[..answered])?;
+    let each = THREE.len() / 3;
+    let answered = answered_at(&ran.host, tick);
+    let first = run_once(alloc, &THREE[..answered.min(3) * each])?;
     for pick in PICKS {
         let is_kept = keeps(alloc, ran.image(tick, pick)?, first.log())?;
         check(rt, is_kept);
