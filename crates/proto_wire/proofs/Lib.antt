@@ -7,3 +7,4 @@ pub mod Refusals
 pub mod Answered
 pub mod Seen
 pub mod Spells
+pub mod Frames

@@ -4,3 +4,4 @@ pub mod Field
 pub mod Taken
 pub mod Refusal
 pub mod Reading
+pub mod Frame

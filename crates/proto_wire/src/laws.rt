@@ -1,7 +1,8 @@
 //! Laws over every field and every text, which make no call.
-ghost use Rattle.std.specs.Prelude.{◌≡◌, ◌<◌, ◌^◌, ℕ, List, [], ◌∷◌, ◌++◌, length, Ok, Err};
+ghost use Rattle.std.specs.Prelude.{◌≡◌, ◌<◌, ◌≤◌, ◌^◌, ℕ, List, [], ◌∷◌, ◌++◌, length, Some, Ok, Err};
 ghost use Rattle.proto_wire.specs.declared.fault.WireFault.{WireFault};
 ghost use Rattle.proto_wire.specs.Text.{IsFieldNumber, varint_field, fixed32_field, bytes_field, message_field};
+ghost use Rattle.proto_wire.specs.Frame.{frame_text, frame_at};
 ghost use Rattle.proto_wire.specs.Field.{ValueText, Varint, Bytes, Fixed32, FieldText, IsField, field_at, with_first, fields_of};
 
 /// What a writer adds is the text of its field.
@@ -37,4 +38,15 @@ pub fn fields_follow()
         → fields_of bytes ≡ Err fault }
     ensures written { (text rest : List ℕ) (number : ℕ) (value : ValueText) → IsField text number value
         → fields_of (text ++ rest) ≡ with_first (record { number = number; value = value }) (fields_of rest) }
+{}
+
+/// A frame is read back, whatever follows it, within a limit that its payload keeps to.
+pub fn frames_are_read()
+    ensures { (payload rest : List ℕ) (limit : ℕ) → length payload ≤ limit → length payload < 2 ^ 32
+        → frame_at limit (frame_text payload ++ rest) ≡ Ok (Some payload) }
+{}
+
+/// No frame begins another.
+pub fn no_frame_begins_another()
+    ensures { (a b x y : List ℕ) → length a < 2 ^ 32 → length b < 2 ^ 32 → frame_text a ++ x ≡ frame_text b ++ y → a ≡ b }
 {}
