@@ -7,3 +7,4 @@ pub mod ImageLemmas
 pub mod HistoryLemmas
 pub mod ReplayLemmas
 pub mod DiskCallLemmas
+pub mod WholeLemmas

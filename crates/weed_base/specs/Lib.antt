@@ -13,3 +13,4 @@ pub mod MemForms
 pub mod PathFaults
 pub mod NamedBytes
 pub mod DiskLaws
+pub mod Whole

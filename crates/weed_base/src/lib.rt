@@ -16,6 +16,7 @@ mod path_fault;
 mod sender;
 mod sink;
 mod source;
+mod whole;
 
 pub use bytes::{
     Bytes, LogText, LogTextKind, Mime, MimeKind, Name, NameKind, PlainKind, Text, Word, WordKind,
@@ -35,3 +36,4 @@ pub use path_fault::PathFault;
 pub use sender::Sender;
 pub use sink::Sink;
 pub use source::{Failed, Source};
+pub use whole::{WriteFault, read_full, write_all};
