@@ -1,5 +1,8 @@
 pub mod MessageLemmas
 pub mod RoundTrip
+pub mod ChunkLemmas
+pub mod EntryLemmas
+pub mod ValidEntries
+pub mod Collecting
+pub mod WrittenChunks
 pub mod Lengths
-pub mod Seen
-pub mod Spans

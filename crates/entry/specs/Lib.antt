@@ -1,6 +1,12 @@
 pub mod Entry
 pub mod AttributesText
 pub mod Steps
+pub mod ChunkText
+pub mod ChunkReading
+pub mod ChunkSteps
+pub mod EntryText
+pub mod EntrySteps
+pub mod EntryParts
+pub mod EntryReading
+pub mod EntryWriting
 pub mod Needles
-pub mod Denotation
-pub mod Spans

@@ -7,6 +7,9 @@ use weed_base::Mime;
 /// The greatest length of a file, in bytes.
 pub const MAX_FILE_SIZE: u64 = 274_877_906_944;
 
+/// The most chunks of a file.
+pub const MAX_CHUNKS: u32 = 65_536;
+
 /// The greatest length of a media type, in bytes.
 pub const MAX_MIME: usize = 255;
 
