@@ -1,6 +1,7 @@
 pub mod Faults
 pub mod Namespace
 pub mod Log
+pub mod Pages
 pub mod Plan
 pub mod RecordText
 pub mod Messages

@@ -22,6 +22,7 @@ pub use laws::{
     made_directories_are_there, plans_keep_logs_sound, plans_keep_names_well_formed,
     plans_keep_times_rising, written_records_are_read,
 };
+pub use made::directory_made_at;
 pub use names::{KeeperFault, Names};
-pub use planning::plan;
+pub use planning::{new_directories, plan};
 pub use record_fault::RecordFault;

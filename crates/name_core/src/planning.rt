@@ -67,8 +67,9 @@ fn changes_of<V: Names>(
     }
 }
 
-/// A new directory at each missing prefix of the path.
-fn new_directories<V: Names>(
+/// A new directory at each missing prefix of the path, itself included, the shortest first, as a command makes it
+/// at that time in nanoseconds since 1970. The view is only read. `IsFile` names the first prefix that is a file.
+pub fn new_directories<V: Names>(
     alloc: Global,
     view: &mut V,
     path: &Path,
