@@ -1,0 +1,6 @@
+pub mod ReadingLoop
+pub mod ReadRecords
+pub mod ChunkRoundTrip
+pub mod EntryRoundTrip
+pub mod RoundTrip
+pub mod Sizes

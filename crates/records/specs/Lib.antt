@@ -1,0 +1,4 @@
+pub mod Events
+pub mod RecordReading
+pub mod RecordText
+pub mod Lengths

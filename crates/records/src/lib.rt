@@ -1,0 +1,18 @@
+//! Records of a log, read from their texts with all of their events, and written.
+#![tactic(auto)]
+
+mod counting;
+mod event_message;
+mod event_parts;
+mod event_reading;
+mod found;
+mod laws;
+mod meaning;
+mod measure;
+mod record_reading;
+mod record_writing;
+
+pub use counting::record_length;
+pub use laws::written_entries_are_read;
+pub use record_reading::read_record;
+pub use record_writing::write_record;
