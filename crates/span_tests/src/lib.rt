@@ -1,0 +1,5 @@
+//! Runs of what is seen of chunks, of needles in memory, and of frames.
+#![tactic(auto)]
+
+#[cfg(test)]
+mod tests;

@@ -1,0 +1,4 @@
+pub mod Denotation
+pub mod Spans
+pub mod Stretches
+pub mod Visible
