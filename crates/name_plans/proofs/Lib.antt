@@ -1,0 +1,6 @@
+pub mod Makes
+pub mod Writes
+pub mod Within
+pub mod MovedTexts
+pub mod PageLoop
+pub mod Drops

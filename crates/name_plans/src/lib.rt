@@ -1,0 +1,16 @@
+//! What each command changes of a namespace.
+#![tactic(auto)]
+
+mod command;
+mod laws;
+mod moved;
+mod moving;
+mod parents;
+mod removing;
+mod writing;
+
+pub use command::{Command, CommandChunks, Piece};
+pub use laws::removals_keep_names_well_formed;
+pub use moving::plan_move;
+pub use removing::plan_remove;
+pub use writing::{Writing, plan_write};
