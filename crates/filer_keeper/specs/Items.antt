@@ -3,7 +3,7 @@ use Rattle.std.specs.Prelude.{◌≡◌, ℕ, true, not, List, [], ◌∷◌, �
 use Rattle.std.specs.FinMap.{is_sorted}
 use Rattle.weed_base.specs.PathOrder.{path_cmp}
 use Rattle.name_core.specs.Namespace.{is_within}
-use Rattle.filer_keeper.specs.Pages.{Named}
+use Rattle.name_core.specs.Pages.{Named}
 use Rattle.filer_keeper.specs.declared.tree.Node.{Node}
 use Rattle.filer_keeper.specs.declared.tree.Tree.{Tree}
 use Rattle.filer_keeper.specs.declared.tree.Tree.TheVariants.{Empty, Fork'}

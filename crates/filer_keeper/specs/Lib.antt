@@ -1,3 +1,2 @@
-pub mod Pages
 pub mod Commit
 pub mod Items

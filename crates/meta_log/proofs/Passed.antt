@@ -1,13 +1,13 @@
 -- Records that are passed over, whatever the bytes of the file are.
-use Rattle.std.proofs.Common.{◌≡◌, inl, inr, ℕ, ◌+◌, ◌≤◌, ◌<◌, List, [], ◌∷◌, ◌++◌, length, refl, sym, ◌∙◌, ap, subst, arith, length-append, Option, Some, None}
-use Rattle.std.specs.Prelude.{IfSome, MatchOption, All}
+use Rattle.std.proofs.Common.{◌≡◌, inl, inr, ℕ, ◌+◌, ◌≤◌, ◌<◌, List, [], ◌∷◌, ◌++◌, length, sym, ◌∙◌, ap, subst, arith, length-append, Option, Some, None}
+use Rattle.std.specs.Prelude.{IfSome}
 use Rattle.std.proofs.lemmas.List.Elements.{All-nil, All-cons, All-append}
 use Rattle.weed_base.specs.Files.{Files, content}
 use Rattle.name_core.specs.declared.change.Record.{Record}
 use Rattle.meta_log.specs.Segment.{item, items}
 use Rattle.meta_log.specs.Left.{StandsAt, NoItemAt, StandFrom, BreaksAt, batch_from, FillsOrEnds}
 use Rattle.meta_log.specs.Kept.{ReadsAfter, BreaksAfter}
-use Rattle.meta_log.specs.Records.{ReadsAs, IsNoRecord, ReadAs}
+use Rattle.meta_log.specs.Records.{ReadsAs, IsNoRecord}
 use Rattle.meta_log.specs.Skip.{PassesTo, StopsAt, NoRecordAt}
 use Rattle.meta_log.proofs.Frames.{items-append, length-framed}
 use Rattle.meta_log.proofs.RecordLists.{TellsTime}

@@ -5,7 +5,7 @@ use Rattle.name_core.specs.declared.change.Record.{Record}
 use Rattle.name_core.specs.Log.{TimesRise}
 use Rattle.meta_log.specs.Held.{HoldsPayloads}
 use Rattle.meta_log.specs.Records.{ReadAs, front_of_records}
-use Rattle.meta_log.specs.Kept.{HoldsRecords, HoldsMetaLog}
+use Rattle.meta_log.specs.Kept.{HoldsRecords}
 use Rattle.meta_log.specs.Places.{place_behind, HoldsPlace, IsNext}
 use Rattle.meta_log.specs.RecordPlaces.{LiesBetween, HoldsRecordPlace, AreNext}
 use Rattle.meta_log.specs.declared.meta_log.MetaLog.{MetaLog}

@@ -1,10 +1,10 @@
 -- What stands in a file, whatever its bytes are.
-use Rattle.std.proofs.Common.{◌≡◌, inl, inr, ℕ, zero, suc, ◌+◌, ◌≤◌, ◌<◌, min, List, [], ◌∷◌, ◌++◌, length, take, drop, refl, sym, ◌∙◌, ap, subst, arith, length-append, length-drop, Option, Some, None}
+use Rattle.std.proofs.Common.{◌≡◌, inl, inr, ℕ, zero, suc, ◌+◌, ◌≤◌, ◌<◌, min, List, [], ◌∷◌, ◌++◌, length, take, drop, sym, ◌∙◌, ap, subst, arith, length-append, length-drop, Option, Some, None}
 use Rattle.std.specs.Prelude.{IfSome, MatchOption, sum_by}
 use Rattle.std.proofs.lemmas.Bool.{cases_lt}
 use Rattle.std.proofs.lemmas.List.Sums.{sum_by-cons}
 use Rattle.weed_base.specs.Files.{Files, content}
-use Rattle.meta_log.specs.Segment.{IsShort, framed, item, items, IsCut}
+use Rattle.meta_log.specs.Segment.{item, items, IsCut}
 use Rattle.meta_log.specs.Head.{IsNextHead}
 use Rattle.meta_log.specs.Left.{among_items, batch_from, StandsAt, NoItemAt, StandFrom, IsHeadAt, BreaksAt}
 use Rattle.meta_log.specs.Places.{begins_at, ReadsFrom}

@@ -14,5 +14,6 @@ pub mod Places
 pub mod Records
 pub mod Skip
 pub mod Kept
+pub mod World
 pub mod RecordPlaces
 pub mod Images

@@ -34,6 +34,7 @@ pub struct MetaLog {
     ghost is_log: { log.stem ≡ Log },
     ghost counted: { front.count ≤ log.gate },
     ghost bounded: { front.time ≤ end_of_time },
+    ghost timed: { front.count ≤ front.time },
 }
 
 impl MetaLog {
@@ -220,6 +221,7 @@ impl MetaLog {
     pub fn front(&self) -> Front
         ensures front { result ≡ front_of self.now }
         ensures bounded { result.time ≤ end_of_time }
+        ensures timed { result.count ≤ result.time }
     {
         self.front
     }

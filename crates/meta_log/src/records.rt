@@ -26,6 +26,7 @@ use weed_base::{Disk, FileName};
 pub struct RisingRecords {
     pub front: Front,
     ghost bounded: { front.time ≤ end_of_time },
+    ghost timed: { front.count ≤ front.time },
 }
 
 /// The time of the record that the payload reads as, where it reads as one. Memory runs out for a record alone.

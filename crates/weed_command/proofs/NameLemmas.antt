@@ -11,13 +11,13 @@ use Rattle.std.specs.List.{filter}
 use Rattle.std.specs.Map.{lookup}
 use Rattle.std.proofs.lemmas.Bool.{cases_Bool}
 use Rattle.std.proofs.lemmas.Map.Entries.{lookup-filter-keys}
-use Rattle.weed_base.specs.Path.{IsBelow}
+use Rattle.weed_base.specs.Path.{IsBelow, IsPath}
 use Rattle.weed_base.specs.PathOrder.{path_cmp}
 use Rattle.entry.specs.declared.entry.Entry.{Entry}
 use Rattle.name_core.specs.declared.change.Change.TheVariants.{Put, Drop}
 use Rattle.name_core.specs.Namespace.{Namespace, step, is_within}
 use Rattle.entry.specs.Entry.{IsValid}
-use Rattle.weed_command.specs.KeptNames.{MayBeMade, AreKept}
+use Rattle.name_core.specs.Pages.{AreNamed}
 use Rattle.name_core.proofs.Paths.{same_path, same_path-refl, same_path-exact, get-insert_same, get-insert_other, path_cmp_total, path_cmp-IsAntisymmetric, cases_path}
 
 -- A path is within a top where the top is its front.
@@ -120,7 +120,7 @@ left_by_drop old new top left = same _ _ (λ path.
     ∙ sym (drop_says_of top path (from_entries old)))
 
 -- No names are kept.
-pub none_kept : (entries : Entries) → entries ≡ [] → AreKept (from_entries entries)
+pub none_kept : (entries : Entries) → entries ≡ [] → AreNamed (from_entries entries)
 none_kept entries none = record {
   each = λ path entry there.
       let is : None ≡ Some entry = sym (get-empty _ path) ∙ ap (λ (e : Entries). get {R = path_cmp} (from_entries e) path) (sym none) ∙ there in cc;
@@ -129,18 +129,18 @@ none_kept entries none = record {
 some_same : (a b : Entry) → Some a ≡ Some b → a ≡ b
 some_same a b e = cc
 
-pub put_keeps : (at : List (List ℕ)) (entry : Entry) (names : Namespace) → MayBeMade (Put at entry) → AreKept names → AreKept (step (Put at entry) names)
-put_keeps at entry names kept had = record {
+pub put_keeps : (at : List (List ℕ)) (entry : Entry) (names : Namespace) → IsPath at → at ≢ [] → IsValid entry → AreNamed names → AreNamed (step (Put at entry) names)
+put_keeps at entry names is_path rootless valid had = record {
   each = λ path found there.
       elim (cases_path path at) [
         | inl same ↦
             let is : Some entry ≡ Some found = sym (put_says at path entry same names) ∙ there in
-            ((λ root. kept.rootless (sym same ∙ root)), subst IsValid (some_same entry found is) (kept.valid))
+            (subst IsPath (sym same) is_path, (λ root. rootless (sym same ∙ root)), subst IsValid (some_same entry found is) valid)
         | inr other ↦ had.each path found (sym (put_is_silent at path entry other.1 names) ∙ there)
       ];
 }
 
-pub drop_keeps : (top : List (List ℕ)) (names : Namespace) → AreKept names → AreKept (step (Drop top) names)
+pub drop_keeps : (top : List (List ℕ)) (names : Namespace) → AreNamed names → AreNamed (step (Drop top) names)
 drop_keeps top names had = record {
   each = λ path found there.
       elim (cases_Bool (is_within top path)) [

@@ -7,7 +7,8 @@ use Rattle.weed_base.specs.declared.path_fault.PathFault.{PathFault}
 use Rattle.name_core.specs.declared.change.Record.{Record}
 use Rattle.name_core.specs.declared.command.Command.TheVariants.{MakeDir}
 use Rattle.name_core.specs.declared.command.Refusal.{Refusal}
-use Rattle.name_core.specs.declared.command.Refusal.TheVariants.{IsFile, ClockAtEnd}
+use Rattle.name_core.specs.declared.command.Refusal.TheVariants.{IsFile}
+use Rattle.name_core.specs.Faults.{refusal_name}
 use Rattle.name_core.specs.Log.{fold, last_time}
 use Rattle.name_core.specs.RecordText.{name_of}
 use Rattle.name_core.specs.Plan.{Planned, Recorded, Nothing, Refused, plan_of}
@@ -28,7 +29,7 @@ pub record Answering : Type 0 where
 -- The name of a refusal, with the path where it names one.
 abbrev pub refusal_text : Refusal → List ℕ
 refusal_text (IsFile path) = codes "IsFile " ++ text_of path
-refusal_text ClockAtEnd = codes "ClockAtEnd"
+refusal_text refusal = refusal_name refusal
 
 -- A target that is no path: 400 with the fault, which closes.
 abbrev pub bad_path : PathFault → Answering

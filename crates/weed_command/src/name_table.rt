@@ -1,13 +1,15 @@
-ghost use Rattle.std.specs.Prelude.{◌≡◌, ◌≤◌, ◌<◌, ◌+◌, All, length};
+ghost use Rattle.std.specs.Prelude.{◌≡◌, ◌≢◌, [], ◌≤◌, ◌<◌, ◌+◌, All, length};
 ghost use Rattle.std.specs.FinMap.{empty, from_entries};
 ghost use Rattle.name_core.specs.Namespace.{after_changes, is_within, step};
-ghost use Rattle.weed_command.specs.KeptNames.{MayBeMade, AreKept};
+ghost use Rattle.name_core.specs.Pages.{AreNamed};
+ghost use Rattle.weed_command.specs.KeptNames.{MayBeMade};
+ghost use Rattle.std.proofs.Props.{props};
 
 use entry::Entry;
 use name_core::{Change, KeeperFault, Names, RecordChanges};
 use std::alloc::{AllocError, Global};
 use std::collections::HashMap;
-use weed_base::Path;
+use weed_base::{Name, Path};
 
 /// The path is the top, or below it.
 #[tactic(auto, using(crate::proofs::NameLemmas::within_is))]
@@ -23,12 +25,13 @@ fn stands_within(path: &Path, top: &Path) -> bool
 #[derive(Debug, Drop)]
 pub struct NameTable {
     entries: HashMap<Path, Entry>,
-    ghost kept: { AreKept (from_entries entries.entries) },
+    ghost kept: { AreNamed (from_entries entries.entries) } by { Prim.hlevel props },
 }
 
 impl NameTable {
     ghost use Rattle.std.specs.Prelude.{OnOk};
-    ghost use Rattle.name_core.specs.declared.change.Change.TheVariants.{Drop};
+    ghost use Rattle.name_core.specs.declared.change.Change.TheVariants.{Drop, Put};
+    ghost use Rattle.entry.specs.Entry.{IsValid};
     ghost use Rattle.weed_command.specs.NameTable.{names_of, spare_of};
 
     /// No names. Takes no memory.
@@ -66,12 +69,22 @@ impl NameTable {
         ensures spare { spare_of self.old ≤ spare_of self.new + 1 }
     {
         match change {
-            Change::Put(path, entry) => {
-                let put: Result<_, _> = self.entries.insert(path, entry);
-                put.unwrap();
-            }
+            Change::Put(path, entry) => self.put(path, entry),
             Change::Drop(top) => self.remove_within(&top),
         }
+    }
+
+    fn put(&mut self, path: Path, entry: Entry)
+        requires spare { 0 < spare_of self.old }
+        requires rootless { path ≢ [] }
+        requires valid { IsValid entry }
+        ensures names { names_of self.new ≡ step (Put path entry) (names_of self.old) }
+        ensures spare { spare_of self.old ≤ spare_of self.new + 1 }
+    {
+        // The text shows that the path is one.
+        let _ = path.text();
+        let put: Result<_, _> = self.entries.insert(path, entry);
+        put.unwrap();
     }
 
     /// Takes away what is at the top and below it, in time in proportion to all that is there.
@@ -101,4 +114,28 @@ impl Names for NameTable {
             None => Ok(None),
         }
     }
+
+    /// No command reads pages of this table so far: it has no memory for any.
+    fn children_after(
+        &mut self,
+        alloc: Global,
+        dir: &Path,
+        after: Option<&Name>,
+        room: u32,
+    ) -> Result<Vec<(Name, Entry)>, KeeperFault> {
+        Err(KeeperFault::Memory)
+    }
+
+    /// The same.
+    fn below_after(
+        &mut self,
+        alloc: Global,
+        top: &Path,
+        after: Option<&Path>,
+        room: u32,
+    ) -> Result<Vec<(Path, Entry)>, KeeperFault> {
+        Err(KeeperFault::Memory)
+    }
+
+    ghost are_named = { λ names. names.kept };
 }

@@ -92,7 +92,7 @@ fn refusal_line(alloc: Global, refusal: &Refusal) -> Result<String, AllocError>
 {
     match refusal {
         Refusal::IsFile(path) => format!(in alloc; "IsFile {}", path.as_str()),
-        Refusal::ClockAtEnd => String::from_str(alloc, "ClockAtEnd"),
+        _ => String::from_str(alloc, refusal.name()),
     }
 }
 

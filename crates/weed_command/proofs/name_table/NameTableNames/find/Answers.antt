@@ -10,13 +10,13 @@ returns-in_ok-copy-in-Some-clause-found c = rw c.in_ok-copy-in-Some.ensures
 pub returns-in_ok-copy-in-Some-clause-root : goal.returns-in_ok-copy-in-Some-clause-root
 returns-in_ok-copy-in-Some-clause-root c root =
     absurd ((c.args.self.now.kept.each c.args.path.now c.in-Some.entry.now
-    (sym (found_at c.args.self.now.entries.entries c.args.path.now c.args.path.now _ refl c.in-Some.ensures.value))).0 root)
+    (sym (found_at c.args.self.now.entries.entries c.args.path.now c.args.path.now _ refl c.in-Some.ensures.value))).1 root)
 
 pub returns-in_ok-copy-in-Some-clause-valid : goal.returns-in_ok-copy-in-Some-clause-valid
 returns-in_ok-copy-in-Some-clause-valid c =
     subst IsValid (sym c.in_ok-copy-in-Some.ensures)
     (c.args.self.now.kept.each c.args.path.now c.in-Some.entry.now
-    (sym (found_at c.args.self.now.entries.entries c.args.path.now c.args.path.now _ refl c.in-Some.ensures.value))).1
+    (sym (found_at c.args.self.now.entries.entries c.args.path.now c.args.path.now _ refl c.in-Some.ensures.value))).2
 
 pub returns-in-None-clause-found : goal.returns-in-None-clause-found
 returns-in-None-clause-found c =
