@@ -1,8 +1,8 @@
 -- What follows an item is not read.
-use Rattle.std.proofs.Common.{◌≡◌, ℕ, ◌+◌, ◌*◌, ◌/◌, ◌<◌, ◌≤◌, List, ◌++◌, length, take, drop, Result, Ok, Err, refl, sym, ap, subst, ◌∙◌, arith, inl, inr}
+use Rattle.std.proofs.Common.{◌≡◌, ℕ, ◌+◌, ◌*◌, ◌/◌, ◌≤◌, List, ◌++◌, length, take, drop, Result, Ok, Err, refl, sym, ap, subst, ◌∙◌, arith, inl, inr}
 use Rattle.std.specs.Int.{w32, w64, from_be_bytes}
 use Rattle.std.proofs.lemmas.Bool.{cases_lt}
-use Rattle.std.proofs.lemmas.List.{take-append-le, drop-append-le, length-append, length-drop}
+use Rattle.std.proofs.lemmas.List.{take-append-le, take-append-drop, drop-append-le, length-append, length-drop, length-take}
 use Rattle.needle.specs.declared.fault.NeedleFault.{NeedleFault}
 use Rattle.needle.specs.declared.fault.NeedleFault.TheVariants.{Truncated}
 use Rattle.needle.specs.declared.item.Item.{Item}
@@ -13,7 +13,7 @@ use Rattle.needle.specs.Fields.{four_at, eight_at, size_in, counted_in, checksum
 use Rattle.needle.specs.Layout.{padded, frame_len}
 use Rattle.needle.specs.Reading.{behind, item_at, read_at}
 use Rattle.needle.proofs.Places.{frame-least}
-use Rattle.needle.proofs.Verdicts.{inner, wrapped, read_at-whole, read_at-truncated}
+use Rattle.needle.proofs.Verdicts.{inner, read_at-whole, read_at-truncated}
 
 part-append : (place count : ℕ) (text more : List ℕ) → place + count ≤ length text → take count (drop place (text ++ more)) ≡ take count (drop place text)
 part-append place count text more within =
@@ -72,3 +72,32 @@ read_followed version text more read is =
   where
     never : Err Truncated ≡ Ok read → ⊥
     never e = cc
+
+never_read : {read : ReadItem} → Err Truncated ≡ Ok read → ⊥
+never_read e = cc
+
+taken_of : (version : Version) (text : List ℕ) (read : ReadItem) (r : Result Item NeedleFault) → finished version (size_in text) (moment_in version text) r ≡ Ok read
+    → read.taken ≡ padded version (size_in text)
+taken_of version text read (Ok item) is = cc
+taken_of version text read (Err fault) is = cc
+
+-- What was read is whole.
+pub read_whole : (version : Version) (text : List ℕ) (read : ReadItem) → read_at version text ≡ Ok read → (read.taken ≡ padded version (size_in text)) × IsWhole version text
+read_whole version text read is =
+    elim (cases_lt (length text) (padded version (size_in text))) [
+      | inl short ↦ absurd (never_read (sym (read_at-truncated version text short) ∙ is))
+      | inr whole ↦ (taken_of version text read (inner version text) (sym (read_at-whole version text whole) ∙ is), whole)
+    ]
+
+-- What is read stands in the bytes that it takes.
+pub read_within : (version : Version) (text : List ℕ) (n : ℕ) (read : ReadItem) → read_at version text ≡ Ok read → read.taken ≤ n → read_at version (take n text) ≡ Ok read
+read_within version text n read is within =
+    let least = frame-least version in
+    let whole = read_whole version text read is in
+    let joined : take n text ++ drop n text ≡ text = take-append-drop n text in
+    let fields = fields_within version text whole.1 in
+    let len = length-take n text in
+    let size : size_in (take n text) ≡ size_in text =
+    sym (four-append 12 (take n text) (drop n text) (omega (arith, len, whole.0, whole.1, fields))) ∙ ap size_in joined in
+    let all : IsWhole version (take n text) = subst (λ (m : ℕ). padded version m ≤ length (take n text)) (sym size) (omega (arith, len, whole.0, whole.1)) in
+    sym (whole-append version (take n text) (drop n text) all) ∙ ap (read_at version) joined ∙ is

@@ -1,5 +1,5 @@
 -- A check of an item in pieces answers what reading gives.
-use Rattle.std.proofs.Common.{◌≡◌, ◌≢◌, ℕ, suc, ◌+◌, ◌-◌, ◌*◌, ◌/◌, ◌<◌, ◌≤◌, Bool, true, false, cond, eqb, ltb, List, [], ◌∷◌, ◌++◌, length, take, drop, Option, Some, None, Result, Ok, Err, refl, sym, ap, subst, ◌∙◌, arith, inl, inr, ◌⊎◌}
+use Rattle.std.proofs.Common.{◌≡◌, ◌≢◌, ℕ, ◌+◌, ◌-◌, ◌*◌, ◌/◌, ◌<◌, ◌≤◌, Bool, true, false, cond, eqb, ltb, List, [], ◌++◌, length, take, drop, Option, Some, None, Result, Ok, Err, refl, sym, ap, subst, ◌∙◌, arith, inl, inr, ◌⊎◌}
 use Rattle.std.specs.Prelude.{option_map}
 use Rattle.std.specs.Int.{w8, w32, from_be_bytes}
 use Rattle.std.proofs.lemmas.Bool.{ne_eqb, lt-ltb, ltb-true, ltb-false, cases_lt, cases_eq}
@@ -9,19 +9,19 @@ use Rattle.needle.specs.declared.fault.NeedleFault.{NeedleFault}
 use Rattle.needle.specs.declared.fault.NeedleFault.TheVariants.{SizeMismatch}
 use Rattle.needle.specs.declared.head.Head.{Head}
 use Rattle.needle.specs.declared.item.Item.{Item}
-use Rattle.needle.specs.declared.item.Item.TheVariants.{Live, Gone}
+use Rattle.needle.specs.declared.item.Item.TheVariants.{Gone}
 use Rattle.needle.specs.declared.item.ReadItem.{ReadItem}
 use Rattle.needle.specs.declared.version.Version.{Version}
 use Rattle.needle.specs.Crc.{checksum}
 use Rattle.needle.specs.Fields.{four_at, eight_at, size_in, counted_in, checksum_in, IsWhole}
 use Rattle.needle.specs.Layout.{padded, frame_len}
-use Rattle.needle.specs.Pieces.{IsInPieces, IsWholeTail, Checks, check_sums, parts_verdict, tail_verdict, data_behind, data_in}
+use Rattle.needle.specs.Pieces.{IsInPieces, IsWholeTail, Checks, check_sums, parts_verdict, tail_verdict, data_behind}
 use Rattle.needle.specs.Reading.{◌>>=◌, Contents, bytes_at, body_at, parts_at, told_at, contents_at, check_sum, check_marks, behind, live_at, item_at, read_at}
 use Rattle.needle.proofs.Codecs.{bytes_reads}
 use Rattle.needle.proofs.ItemsRead.{item_at-live, item_at-gone}
 use Rattle.needle.proofs.PartsRead.{under, with_body, with_body_first, parts-body}
 use Rattle.needle.proofs.Places.{frame-least}
-use Rattle.needle.proofs.Verdicts.{made, inner, wrapped, read_at-whole}
+use Rattle.needle.proofs.Verdicts.{made, wrapped, read_at-whole}
 
 -- ---- what a check gives of what is behind it
 

@@ -1,5 +1,5 @@
 -- What stands around the data of a needle in its item.
-use Rattle.std.specs.Prelude.{◌≡◌, ℕ, ◌+◌, List, ◌∷◌, ◌++◌, length}
+use Rattle.std.specs.Prelude.{◌≡◌, ℕ, List, ◌∷◌, ◌++◌, length}
 use Rattle.std.specs.Int.{w32, w64, to_be_bytes}
 use Rattle.needle.specs.declared.framing.Framed.{Framed}
 use Rattle.needle.specs.declared.item.Item.TheVariants.{Live}
@@ -8,7 +8,6 @@ use Rattle.needle.specs.declared.version.Version.{Version}
 use Rattle.needle.specs.Answer.{IsItem}
 use Rattle.needle.specs.Crc.{checksum}
 use Rattle.needle.specs.Item.{unmarked, flags, content, parts_text, moment_text, item_text}
-use Rattle.needle.specs.Layout.{padded}
 
 -- The bytes of a head: cookie, key, size and the length of the data.
 abbrev pub head_text : ℕ → ℕ → ℕ → ℕ → List ℕ
