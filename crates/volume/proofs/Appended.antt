@@ -13,7 +13,7 @@ use Rattle.needle_index.specs.Index.{Spots}
 use Rattle.needle_index.specs.Text.{entered, entry_for}
 use Rattle.volume.specs.Contents.{HoldsAt, AreItems, end_of, Contents, stored, stored_all, indexed, greatest_of}
 
-end-least : (place : ℕ) (items : List ReadItem) → place ≤ end_of place items
+pub end-least : (place : ℕ) (items : List ReadItem) → place ≤ end_of place items
 end-least place [] = omega arith
 end-least place (read ∷ more) = let rest = end-least (place + read.taken) more in omega (arith, rest)
 
@@ -22,7 +22,7 @@ unfolding read_at
 nothing_read V2 = refl
 nothing_read V3 = refl
 
-none_past : (version : Version) (text : List ℕ) (place : ℕ) → length text ≤ place → AreItems version text place []
+pub none_past : (version : Version) (text : List ℕ) (place : ℕ) → length text ≤ place → AreItems version text place []
 none_past version text place past = λ read held.
     let nothing : drop place text ≡ [] = nil_from_length (drop place text) (omega (arith, length-drop place text)) in
     never read (sym (nothing_read version) ∙ ap (read_at version) (sym nothing) ∙ held.is_read)

@@ -23,21 +23,21 @@ use Rattle.volume.proofs.Named.{get-insert_same, get-insert_other, content-inser
 
 -- ---- the names differ
 
-differ : (id : ℕ) (a b : Part) → ending a ≢ ending b → name_of id a ≢ name_of id b
+pub differ : (id : ℕ) (a b : Part) → ending a ≢ ending b → name_of id a ≢ name_of id b
 differ id a b other same = other (append_cancel_left (decimal id) (ending a) (ending b) same)
 
-items_index : ending Items ≡ ending Index → ⊥
+pub items_index : ending Items ≡ ending Index → ⊥
 items_index e = let h : 100 ≡ 105 = ap (λ (l : List ℕ). get_or l 1 0) e in omega (arith, h)
 
-items_sign : ending Items ≡ ending Sign → ⊥
+pub items_sign : ending Items ≡ ending Sign → ⊥
 items_sign e = let h : 100 ≡ 118 = ap (λ (l : List ℕ). get_or l 1 0) e in omega (arith, h)
 
-index_sign : ending Index ≡ ending Sign → ⊥
+pub index_sign : ending Index ≡ ending Sign → ⊥
 index_sign e = let h : 105 ≡ 118 = ap (λ (l : List ℕ). get_or l 1 0) e in omega (arith, h)
 
 -- ---- its files
 
-anew : (name text : List ℕ) (files : Files) → get (made_with name text files) name ≡ Some text
+pub anew : (name text : List ℕ) (files : Files) → get (made_with name text files) name ≡ Some text
 anew name text files =
     let spliced_is : spliced (content (made name files) name) 0 text ≡ text =
     ap (λ (bytes : List ℕ). spliced bytes 0 text) (content-insert_same files name []) ∙ whole in
@@ -83,7 +83,7 @@ created_holds id placement ttl volume text two bytes is new files =
       text = text;
       has = record {
         there = ap (λ n. get (created id text files) (name_of n Items)) new.id_is ∙ items_there id text files;
-        bytes = bytes;
+        bytes = subst AreBytes (sym (take_all 8 text (omega (arith, eight)))) bytes;
         front = take_all 8 text (omega (arith, eight)) ∙ is ∙ ap superblock_text (sym new.block);
         are = subst (λ b. AreItems b.version text 8 []) (sym new.block) (none_held text eight);
       };

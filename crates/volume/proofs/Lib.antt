@@ -4,3 +4,15 @@ pub mod Named
 pub mod Created
 pub mod Appended
 pub mod Spots
+pub mod Summed
+pub mod Looked
+pub mod Judged
+pub mod Walked
+pub mod Loaded
+pub mod Unread
+pub mod Indexing
+pub mod Found
+pub mod Mended
+pub mod MendedFiles
+pub mod Grown
+pub mod Cookies

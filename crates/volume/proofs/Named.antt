@@ -1,5 +1,5 @@
 -- Files by their names, after one of them was changed.
-use Rattle.std.proofs.Common.{◌≡◌, ◌≢◌, ℕ, ◌≤◌, Bool, true, false, cond, List, [], length, refl, sym, ◌∙◌, ap, subst, arith, Option, Some, None, Result, Ok, Err}
+use Rattle.std.proofs.Common.{◌≡◌, ◌≢◌, ℕ, ◌≤◌, Bool, true, false, cond, List, [], length, take, refl, sym, ◌∙◌, ap, subst, arith, Option, Some, None, Result, Ok, Err}
 use Rattle.std.specs.Prelude.{IsSomeAnd, MatchResult, unwrap_or}
 use Rattle.std.specs.Option.{option_map}
 use Rattle.std.specs.Ordering.{nat_cmp, eq_by_cmp}
@@ -7,7 +7,7 @@ use Rattle.std.specs.Cmp.{eq_by_cmp_equiv}
 use Rattle.std.specs.Cmp.Lexicographic.{slice_cmp, nat_list_cmp_total}
 use Rattle.std.specs.FinMap.{get, insert, remove, get-insert, get-remove, slice_cmp-IsAntisymmetric, nat_cmp-IsAntisymmetric}
 use Rattle.std.proofs.lemmas.Map.Views.{tells_apart}
-use Rattle.weed_base.specs.Files.{Files, content, made, removed, written, IsWithin, MayWrite, BothTold}
+use Rattle.weed_base.specs.Files.{cut_to, Files, content, made, removed, written, IsWithin, MayWrite, BothTold}
 use Rattle.volume.specs.Making.{ChangesOnly}
 use Rattle.volume.proofs.Told.{both_done, told_related_both}
 
@@ -60,3 +60,6 @@ write_others name at piece old new (Ok value) is = both_done (ChangesOnly name) 
 write_others name at piece old new (Err fault) is =
     told_related_both (MayWrite name at piece) (ChangesOnly name) old new is
     (λ before after may. λ other differs. ap (λ files. get files other) may.2 ∙ get-insert_other before name may.0 other differs)
+
+pub cut_others : (name : List ℕ) (to : ℕ) (files : Files) → ChangesOnly name files (cut_to name to files)
+cut_others name to files = λ other apart. get-insert_other files name (take to (content files name)) other apart

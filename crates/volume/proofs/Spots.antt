@@ -1,11 +1,11 @@
 -- The index of a text's items leads to what they hold.
-use Rattle.std.proofs.Common.{◌≡◌, ℕ, ◌+◌, ◌-◌, ◌*◌, ◌/◌, ◌%◌, ◌^◌, ◌<◌, ◌≤◌, Bool, true, false, cond, nat_eq, List, [], ◌∷◌, length, drop, Option, Some, None, refl, sym, ap, subst, ◌∙◌, arith}
+use Rattle.std.proofs.Common.{◌≡◌, ℕ, ◌+◌, ◌-◌, ◌*◌, ◌/◌, ◌%◌, ◌^◌, ◌<◌, ◌≤◌, Bool, true, false, cond, nat_eq, List, [], ◌∷◌, length, take, drop, Option, Some, None, Ok, refl, sym, ap, subst, ◌∙◌, arith}
 use Rattle.std.specs.Prelude.{IfSome}
 use Rattle.std.specs.Cmp.{nat_cmp_total}
 use Rattle.std.specs.FinMap.{empty, get, get-empty, get-insert, get-remove, insert, remove, nat_cmp-IsAntisymmetric}
 use Rattle.std.specs.Ordering.{nat_cmp, eq_by_cmp}
 use Rattle.std.proofs.lemmas.Bool.Decides.{nat_tests}
-use Rattle.std.proofs.lemmas.List.{length-append}
+use Rattle.std.proofs.lemmas.List.{drop-take, length-append, take-take}
 use Rattle.std.proofs.lemmas.Map.Views.{tells_apart}
 use Rattle.needle.specs.declared.item.Item.{Item}
 use Rattle.needle.specs.declared.item.Item.TheVariants.{Live, Gone}
@@ -15,13 +15,16 @@ use Rattle.needle.specs.declared.version.Version.{Version}
 use Rattle.needle.specs.Answer.{BeginsWith, IsItem}
 use Rattle.needle.specs.Fields.{AreBytes}
 use Rattle.needle.specs.Item.{IsNeedle, body_of, content, five_bytes, long_text, part, parts_text, short_text}
-use Rattle.needle.proofs.Codecs.{IsBytes-drop}
-use Rattle.needle.proofs.Verdicts.{begun_places, begun_whole, read_exactly}
+use Rattle.needle.specs.Reading.{read_at}
+use Rattle.needle.proofs.Codecs.{IsBytes-drop, IsBytes-take}
+use Rattle.needle.proofs.Followed.{read_whole, read_within}
+use Rattle.needle.proofs.Verdicts.{read_exactly}
 use Rattle.needle_index.specs.declared.spot.Spot.{Spot}
 use Rattle.needle_index.specs.Index.{Spots}
 use Rattle.needle_index.specs.Text.{entered, entry_at, entry_for, removal}
-use Rattle.volume.specs.Contents.{AreItems, Contents, HoldsAt, contents_of, index_of, indexed, most_data, stored, stored_all}
+use Rattle.volume.specs.Contents.{AreItems, Contents, HoldsAt, contents_of, end_of, index_of, indexed, most_data, stored, stored_all}
 use Rattle.volume.specs.Spots.{IsAt, Leads}
+use Rattle.volume.proofs.Appended.{end-least}
 
 -- ---- how long a needle can be
 
@@ -97,21 +100,34 @@ remove_leads version text key k spots contents before =
 
 -- ---- over all items
 
-pub begun : (version : Version) (text : List ℕ) (place : ℕ) (read : ReadItem) → AreBytes text → HoldsAt version text place read → BeginsWith version (drop place text) read
-begun version text place read bytes held = (read_exactly version (drop place text) read (IsBytes-drop place text bytes)).0 held.is_read
+pub taken_again : (place count end : ℕ) (text : List ℕ) → place + count ≤ end → take count (drop place text) ≡ take count (drop place (take end text))
+taken_again place count end text ends =
+    let back : place + (end - place) ≡ end = omega arith in
+    sym (ap (take count) (ap (λ (n : ℕ). drop place (take n text)) (sym back) ∙ drop-take place (end - place) text) ∙ take-take count (end - place) (drop place text) (omega arith))
 
-taken_eights : (version : Version) (text : List ℕ) (place : ℕ) (read : ReadItem) → AreBytes text → HoldsAt version text place read → place % 8 ≡ 0 → (place + read.taken) % 8 ≡ 0
-taken_eights version text place read bytes held eights =
-    let begins = begun version text place read bytes held in
-    let whole = (begun_whole version (drop place text) read begins (begun_places version (drop place text) read begins).size_is).0 in
+taken_eights : (version : Version) (text : List ℕ) (place : ℕ) (read : ReadItem) → HoldsAt version text place read → place % 8 ≡ 0 → (place + read.taken) % 8 ≡ 0
+taken_eights version text place read held eights =
+    let whole = (read_whole version (drop place text) read held.is_read).0 in
     omega (arith, whole)
 
-item_leads : (version : Version) (text : List ℕ) (place : ℕ) (read : ReadItem) → AreBytes text → HoldsAt version text place read → place % 8 ≡ 0 → (item : Item) → read.item ≡ item
+bytes_there : (text : List ℕ) (place count end : ℕ) → AreBytes (take end text) → place + count ≤ end → AreBytes (take count (drop place text))
+bytes_there text place count end bytes ends =
+    subst AreBytes (sym (taken_again place count end text ends)) (IsBytes-take count (drop place (take end text)) (IsBytes-drop place (take end text) bytes))
+
+-- the item alone, which ends before a place up to which all are bytes
+begun : (version : Version) (text : List ℕ) (place : ℕ) (read : ReadItem) (end : ℕ) → AreBytes (take end text) → place + read.taken ≤ end → HoldsAt version text place read
+    → BeginsWith version (take read.taken (drop place text)) read
+begun version text place read end bytes ends held =
+    let within : read_at version (take read.taken (drop place text)) ≡ Ok read = read_within version (drop place text) read.taken read held.is_read (omega arith) in
+    (read_exactly version (take read.taken (drop place text)) read (bytes_there text place read.taken end bytes ends)).0 within
+
+item_leads : (version : Version) (text : List ℕ) (place : ℕ) (read : ReadItem) (end : ℕ) → AreBytes (take end text) → place + read.taken ≤ end → HoldsAt version text place read
+    → place % 8 ≡ 0 → (item : Item) → read.item ≡ item
     → (spots : Spots) (contents : Contents) (key : ℕ) → Leads version text key (get spots key) (get contents key)
     → Leads version text key (get (entered spots (entry_for place item)) key) (get (stored contents item) key)
-item_leads version text place read bytes held eights (Gone cookie k) is spots contents key before = remove_leads version text key k spots contents before
-item_leads version text place read bytes held eights (Live needle) is spots contents key before =
-    let fits : IsNeedle needle = subst IsItem is (begun version text place read bytes held).item in
+item_leads version text place read end bytes ends held eights (Gone cookie k) is spots contents key before = remove_leads version text key k spots contents before
+item_leads version text place read end bytes ends held eights (Live needle) is spots contents key before =
+    let fits : IsNeedle needle = subst IsItem is (begun version text place read end bytes ends held).item in
     let small : length needle.body ≤ most_data = subst (λ (i : Item). length (body_of i) ≤ most_data) is held.small in
     let len = needle-length needle fits in
     let most = needle-most needle fits in
@@ -120,19 +136,21 @@ item_leads version text place read bytes held eights (Live needle) is spots cont
     subst (λ s. Leads version text key (get s key) (get (insert contents needle.key needle) key))
     (sym (entered-live spots place needle.key size (omega arith) (omega arith)))
     (put_leads version text key needle.key spots contents (record { offset = place / 8; size = size }) needle
-    (λ same. record { read = read; held = subst (λ (n : ℕ). HoldsAt version text n read) here held; item = is; of_key = sym same; size = refl }) before)
+    (λ same. record { read = read; held = subst (λ (n : ℕ). HoldsAt version text n read) here held; item = is; of_key = sym same; size = refl; bytes = subst (λ (n : ℕ). AreBytes (take read.taken (drop n text))) here (bytes_there text place read.taken end bytes ends) }) before)
 
-pub all_lead : (version : Version) (text : List ℕ) → AreBytes text → (place : ℕ) → place % 8 ≡ 0 → (items : List ReadItem) → AreItems version text place items
+pub all_lead : (version : Version) (text : List ℕ) (end : ℕ) → AreBytes (take end text) → (place : ℕ) → place % 8 ≡ 0 → (items : List ReadItem) → end_of place items ≤ end
+    → AreItems version text place items
     → (spots : Spots) (contents : Contents) → ((key : ℕ) → Leads version text key (get spots key) (get contents key))
     → (key : ℕ) → Leads version text key (get (indexed place spots items) key) (get (stored_all contents items) key)
-all_lead version text bytes place eights [] are spots contents before key = before key
-all_lead version text bytes place eights (read ∷ more) are spots contents before key =
-    all_lead version text bytes (place + read.taken) (taken_eights version text place read bytes are.0 eights) more are.1
+all_lead version text end bytes place eights [] ends are spots contents before key = before key
+all_lead version text end bytes place eights (read ∷ more) ends are spots contents before key =
+    let least = end-least (place + read.taken) more in
+    all_lead version text end bytes (place + read.taken) (taken_eights version text place read are.0 eights) more ends are.1
     (entered spots (entry_for place read.item)) (stored contents read.item)
-    (λ k. item_leads version text place read bytes are.0 eights read.item refl spots contents k (before k)) key
+    (λ k. item_leads version text place read end bytes (omega arith) are.0 eights read.item refl spots contents k (before k)) key
 
-pub index_leads : (version : Version) (text : List ℕ) (items : List ReadItem) (key : ℕ) → AreBytes text → AreItems version text 8 items
+pub index_leads : (version : Version) (text : List ℕ) (items : List ReadItem) (key : ℕ) → AreBytes (take (end_of 8 items) text) → AreItems version text 8 items
     → Leads version text key (get (index_of items) key) (get (contents_of items) key)
 index_leads version text items key bytes are =
-    all_lead version text bytes 8 refl items are empty empty
+    all_lead version text (end_of 8 items) bytes 8 refl items (omega arith) are empty empty
     (λ k. subst (λ o. Leads version text k o (get {R = nat_cmp} (empty {X = Needle} {R = nat_cmp}) k)) (sym (get-empty nat_cmp k)) (subst (λ (o : Option Needle). Leads version text k None o) (sym (get-empty nat_cmp k)) tt)) key

@@ -46,3 +46,10 @@ told_related_both R S None None both weaker = tt
 told_related_both R S None (Some b) both weaker = absurd both
 told_related_both R S (Some a) None both weaker = absurd both
 told_related_both R S (Some a) (Some b) both weaker = weaker a b both
+
+-- a fact of files that another disk tells as well
+pub moved : {a b : Option Files} (P : Files → Type 0) → a ≡ b → IfSome a P → IfSome b P
+moved P same fact = subst (λ told. IfSome told P) same fact
+
+pub moved_both : (R : Files → Files → Type 0) (old a b : Option Files) → b ≡ a → BothTold R old a → BothTold R old b
+moved_both R old a b same fact = subst (λ told. BothTold R old told) (sym same) fact

@@ -16,7 +16,7 @@ use Rattle.volume.specs.FileNames.{name_of}
 -- The file of items is there: its superblock, and these items behind it.
 pub record HasItems (volume : Volume) (items : List ReadItem) (files : Files) (text : List ℕ) : Type 0 where
   pub there : get files (name_of volume.id Items) ≡ Some text
-  pub bytes : AreBytes text
+  pub bytes : AreBytes (take (end_of 8 items) text)
   pub front : take 8 text ≡ superblock_text volume.block
   pub are : AreItems volume.block.version text 8 items
 

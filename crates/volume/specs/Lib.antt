@@ -4,3 +4,10 @@ pub mod Contents
 pub mod Spots
 pub mod Holds
 pub mod Making
+pub mod Window
+pub mod Walk
+pub mod Opening
+pub mod Reads
+pub mod Appending
+pub mod Pieces
+pub mod Writes

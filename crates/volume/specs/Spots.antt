@@ -1,9 +1,10 @@
 -- Where the needles of a volume lie, by its index.
-use Rattle.std.specs.Prelude.{◌≡◌, ℕ, ◌*◌, List, length, Option, Some, None}
+use Rattle.std.specs.Prelude.{◌≡◌, ℕ, ◌*◌, List, length, take, drop, Option, Some, None}
 use Rattle.needle.specs.declared.item.Item.TheVariants.{Live}
 use Rattle.needle.specs.declared.item.Needle.{Needle}
 use Rattle.needle.specs.declared.item.ReadItem.{ReadItem}
 use Rattle.needle.specs.declared.version.Version.{Version}
+use Rattle.needle.specs.Fields.{AreBytes}
 use Rattle.needle.specs.Item.{content}
 use Rattle.needle_index.specs.declared.spot.Spot.{Spot}
 use Rattle.volume.specs.Contents.{HoldsAt}
@@ -15,6 +16,7 @@ pub record IsAt (version : Version) (text : List ℕ) (key : ℕ) (spot : Spot) 
   pub item : read.item ≡ Live needle
   pub of_key : needle.key ≡ key
   pub size : spot.size ≡ length (content (Live needle))
+  pub bytes : AreBytes (take read.taken (drop (8 * spot.offset) text))
 
 -- What an index says of a key leads to the needle that the contents have, and to none where they have none.
 abbrev pub Leads : Version → List ℕ → ℕ → Option Spot → Option Needle → Type 0

@@ -1,4 +1,4 @@
-ghost use Rattle.std.specs.Prelude.{◌≡◌, ◌+◌, ℕ, List, [], ◌∷◌, ◌++◌, length};
+ghost use Rattle.std.specs.Prelude.{◌≡◌, ◌+◌, ℕ, List, [], ◌∷◌, ◌++◌, length, take};
 ghost use Rattle.std.specs.FinMap.{get};
 ghost use Rattle.needle.specs.Fields.{AreBytes};
 ghost use Rattle.needle.specs.declared.item.ReadItem.{ReadItem};
@@ -24,6 +24,6 @@ pub fn an_item_at_the_end_is_the_last()
 
 /// The index of a text's items leads to the needles that they leave.
 pub fn an_index_leads_to_the_contents()
-    ensures { (version : Version) (text : List ℕ) (items : List ReadItem) (key : ℕ) → AreBytes text → AreItems version text 8 items
+    ensures { (version : Version) (text : List ℕ) (items : List ReadItem) (key : ℕ) → AreBytes (take (end_of 8 items) text) → AreItems version text 8 items
         → Leads version text key (get (index_of items) key) (get (contents_of items) key) }
 {}

@@ -1,0 +1,13 @@
+use Rattle.volume.proofs.Looked.{told_tail, told_checked}
+use Rattle.volume.proofs.look.has_tail.Goals as goal
+
+pub returns-clause-bytes : goal.returns-clause-bytes
+returns-clause-bytes g c =
+    told_tail (g.D.Disk.files c.args.disk.now) c.args.name.now c.behind-tail.result.now c.fill.new.self c.args.place c.args.len
+    c.in_ok-fill.ensures.of c.in_ok-fill.ensures.ahead.0 c.in_ok-fill.ensures.ahead.1 c.behind-tail.ensures.held c.if-tail-len.false c.behind-tail.ensures.bytes
+
+pub returns-clause-checked : goal.returns-clause-checked
+returns-clause-checked g c =
+    told_checked (g.D.Disk.files c.args.disk.now) c.args.name.now c.behind-tail.result.now c.fill.new.self c.args.place c.args.len c.args.sum c.args.head.now c.args.version
+    c.check.result c.is_ok.result c.in_ok-fill.ensures.of c.in_ok-fill.ensures.ahead.0 c.in_ok-fill.ensures.ahead.1 c.behind-tail.ensures.held c.if-tail-len.false
+    c.is_ok.ensures.value c.check.ensures

@@ -1,0 +1,18 @@
+use Rattle.std.proofs.Common.{◌<◌, refl, ap, subst, ◌-◌, ◌∙◌}
+use Rattle.volume.proofs.Judged.{none_short, none_over, seen}
+use Rattle.volume.proofs.Told.{moved}
+use Rattle.volume.proofs.look.look.Goals as goal
+
+pub returns-in-None-clause-meets : goal.returns-in-None-clause-meets
+returns-in-None-clause-meets g c =
+    none_short (g.D.Disk.files c.args.disk.now) c.args.name.now c.args.place c.args.version c.in_ok-head.field-0 c.in-None.is c.in_ok-head.ensures.head
+
+pub returns-then-taken-saturating_sub-clause-meets : goal.returns-then-taken-saturating_sub-clause-meets
+returns-then-taken-saturating_sub-clause-meets g c =
+    none_over (g.D.Disk.files c.args.disk.now) c.args.name.now c.args.place c.args.len c.saturating_sub.result c.args.version c.in_ok-head.field-0 c.in-Some.head c.in-Some.is
+    c.in_ok-head.ensures.head c.requires.len (subst (λ n. c.saturating_sub.result < n) c.padded_len-taken.ensures c.if-taken-saturating_sub.true) (c.saturating_sub.ensures ∙ ap (λ n. n - c.args.place) c.min.ensures)
+
+pub returns-clause-meets : goal.returns-clause-meets
+returns-clause-meets g c =
+    seen (g.D.Disk.files c.args.disk.now) c.args.name.now c.args.version c.in_ok-head.field-0 c.in-Some.head c.args.place _ c.in_ok-is_sound.field-0 c.if-not-branch.false refl refl
+    c.padded_len-taken.ensures c.in-Some.is c.in_ok-head.ensures.head (moved _ c.in_ok-head.ensures.looks.files c.in_ok-is_sound.ensures.judged)

@@ -1,0 +1,15 @@
+use Rattle.std.proofs.Common.{subst}
+use Rattle.std.specs.Prelude.{IfSome}
+use Rattle.weed_base.specs.Files.{content}
+use Rattle.volume.specs.Walk.{WalksOn}
+use Rattle.volume.proofs.Told.{moved}
+use Rattle.volume.proofs.Walked.{told_ended}
+use Rattle.volume.proofs.walk.walk.Goals as goal
+
+pub returns-clause-walked : goal.returns-clause-walked
+returns-clause-walked g c =
+    let told = g.D.Disk.files c.args.disk.now in
+    let before = c.loop-walked.invariant in
+    told_ended told c.args.name.now c.args.version c.loop-walked.walked c.step.new.walked
+    (moved _ before.1.files (subst (λ goes. IfSome (g.D.Disk.files c.loop-walked.disk) (λ files. WalksOn c.args.version (content files c.args.name.now) c.loop-walked.walked c.step.new.walked goes)) c.if-branch.false c.in_ok-step.ensures.goes))
+    before.5
