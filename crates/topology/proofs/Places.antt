@@ -4,7 +4,8 @@ use lib.Dec.{T}
 use Rattle.std.specs.List.{insert}
 use Rattle.std.specs.Ordering.{nat_cmp, eq_by_cmp, is_eq, is_gt, is_lt}
 use Rattle.std.specs.Option.{option_map_or, option_and_then}
-use Rattle.std.proofs.lemmas.List.{length-map}
+use Rattle.std.proofs.lemmas.List.{length-map, length-set}
+use Rattle.std.proofs.lemmas.List.Edits.{length-insert}
 use Rattle.std.proofs.lemmas.Bool.Decides.{nat_tests}
 use Rattle.std.specs.declared.cmp.Ordering.TheVariants.{Less, Equal, Greater}
 use Rattle.std.specs.Cmp.Lexicographic.{slice_cmp, nat_list_cmp_total, texts_ties}
@@ -345,3 +346,18 @@ present id (x ∷ xs) at place = subst IsSome (sym (place.found x)) refl
 pub match_some : (found : Option Member) (P Q : Type 0) → IsSome found → Q → MatchOption found P (λ _. Q)
 match_some None P Q some q = cc
 match_some (Some x) P Q some q = q
+
+pub few_set : (members : List Member) (at : ℕ) (member : Member) → length members ≤ 1024 → length (set members at member) ≤ 1024
+few_set members at member le = omega (arith, length-set members at member)
+
+pub few_insert : (members : List Member) (at : ℕ) (member : Member) → at ≤ length members → length members < 1024 → length (insert members at member) ≤ 1024
+few_insert members at member within lt = let e = length-insert members at member within in omega (arith, e)
+
+filter-le : (p : Member → Bool) (members : List Member) → length (filter p members) ≤ length members
+filter-le p [] = omega arith
+filter-le p (x ∷ xs) =
+    let rest = filter-le p xs in
+    elim (p x) as (λ b. length (cond b (x ∷ filter p xs) (filter p xs)) ≤ suc (length xs)) [ true ↦ omega (arith, rest) | false ↦ omega (arith, rest) ]
+
+pub few_filter : (p : Member → Bool) (members : List Member) → length members ≤ 1024 → length (filter p members) ≤ 1024
+few_filter p members le = let fewer = filter-le p members in omega (arith, fewer)

@@ -22,6 +22,14 @@ joined node now nodes = insert nodes node.id (record { node = node; heard = now;
 abbrev pub reports_of : List VolumeReport → Reports
 reports_of reports = fold (λ made report. insert made report.volume report) empty reports
 
+-- A node that was heard at a moment, with what it reports.
+abbrev pub member_of : Node → List VolumeReport → ℕ → Member
+member_of node reports now = record { node = node; heard = now; reports = reports_of reports }
+
+-- With a node and what it reports, in place of one of its id.
+abbrev pub reported : Node → List VolumeReport → ℕ → Nodes → Nodes
+reported node reports now nodes = insert nodes node.id (member_of node reports now)
+
 -- A node joins only where fewer than 1,024 others are there.
 abbrev pub IsJoinFault : Node → Nodes → TopologyFault → Type 0
 IsJoinFault node nodes TooManyNodes = (get nodes node.id ≡ None) × (1024 ≤ len nodes)

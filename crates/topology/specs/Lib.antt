@@ -4,3 +4,5 @@ pub mod Changes
 pub mod Told
 pub mod Writable
 pub mod Tallies
+pub mod Choices
+pub mod Picks

@@ -1,5 +1,5 @@
 -- Nodes by their ids, and what they report.
-use Rattle.std.specs.Prelude.{ℕ, Bool, not, nat_eq, List, map, IsTrue}
+use Rattle.std.specs.Prelude.{ℕ, Bool, not, nat_eq, List, map, length, ◌≤◌, IsTrue}
 use Rattle.std.specs.FinMap.{FinMap, from_sorted}
 use Rattle.std.specs.FinMap.Entries.{is_sorted}
 use Rattle.std.specs.Ordering.{nat_cmp, is_gt}
@@ -32,6 +32,10 @@ with_ids members = map (λ member. (member.node.id, member)) members
 -- The ids rise.
 abbrev pub AreInOrder : List Member → Type 0
 AreInOrder members = IsTrue (is_sorted (slice_cmp nat_cmp) (with_ids members))
+
+-- The ids rise, and there are at most 1,024.
+abbrev pub AreKept : List Member → Type 0
+AreKept members = AreInOrder members × (length members ≤ 1024)
 
 -- The nodes of such a list.
 abbrev pub nodes_of : List Member → Nodes

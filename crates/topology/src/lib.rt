@@ -5,6 +5,7 @@ mod fault;
 mod member;
 mod node;
 mod numbered;
+mod placing;
 mod report;
 #[cfg(test)]
 mod tests;

@@ -1,6 +1,8 @@
-ghost use Rattle.std.specs.Prelude.{◌≡◌, ◌≤◌, ◌<◌, ℕ, true, false, length, slice_index_or};
+ghost use Rattle.std.specs.Prelude.{◌≡◌, ◌≤◌, ◌<◌, ◌-◌, ℕ, true, false, length, slice_index_or};
 ghost use Rattle.topology.specs.Nodes.{is_from, has_id, AreInOrder};
 ghost use Rattle.topology.specs.Changes.{is_heard};
+ghost use Rattle.topology.specs.Choices.{has_room};
+ghost use Rattle.std.specs.FinMap.{len};
 ghost use Rattle.topology.specs.Places.{IsSeat};
 
 use crate::node::Node;
@@ -33,6 +35,22 @@ impl Member {
         ensures { result ≡ is_heard now self.now }
     {
         now.saturating_sub(self.heard) <= SILENCE
+    }
+
+    /// How many volumes more it takes.
+    pub(crate) fn room_left(&self) -> usize
+        ensures { result ≡ self.now.node.room - len self.now.reports }
+    {
+        usize::try_from(self.node.room)
+            .unwrap_or(usize::MAX)
+            .saturating_sub(self.reports.len())
+    }
+
+    /// Whether it has fewer volumes than room.
+    pub(crate) fn has_room(&self) -> bool
+        ensures { result ≡ has_room self.now }
+    {
+        self.room_left() > 0
     }
 
     /// Whether its id is this one.

@@ -25,6 +25,19 @@ pub struct Location {
 }
 
 impl Node {
+    /// The same node.
+    pub fn copy(&self, alloc: Global) -> Result<Node, AllocError>
+        ensures { IfOk result (λ node. node ≡ self.now) }
+    {
+        Ok(Node {
+            id: self.id.copy(alloc)?,
+            public: self.public.copy(alloc)?,
+            data_center: self.data_center.copy(alloc)?,
+            rack: self.rack.copy(alloc)?,
+            room: self.room,
+        })
+    }
+
     /// Where it is reached.
     pub fn location(&self, alloc: Global) -> Result<Location, AllocError>
         ensures { IfOk result (λ location. location ≡ location_of self.now) }

@@ -124,3 +124,61 @@ fn a_volume_with_each_of_its_copies_is_writable(rt: HostRuntime) -> Result<(), F
     assert!(rt; !writes_to_3(&topology, rt.alloc(), 10)?);
     Ok(())
 }
+
+/// A node of room in a rack of data center d1.
+fn racked(alloc: Global, id: &[u8], rack: &[u8], room: u32) -> Result<Node, AllocError> {
+    Ok(Node {
+        id: Name::new(alloc, id)?,
+        public: Name::new(alloc, b"public")?,
+        data_center: Name::new(alloc, b"d1")?,
+        rack: Name::new(alloc, rack)?,
+        room,
+    })
+}
+
+/// Nodes n1 to n4, of which n3 and n4 have the most room, n1 stands in rack r2 and the others in rack r1.
+fn four_nodes(alloc: Global) -> Result<Topology, Fail> {
+    let mut topology = Topology::new(alloc);
+    topology.join(alloc, racked(alloc, b"n1", b"r2", 1)?, 0)?;
+    topology.join(alloc, racked(alloc, b"n2", b"r1", 2)?, 0)?;
+    topology.join(alloc, racked(alloc, b"n3", b"r1", 3)?, 0)?;
+    topology.join(alloc, racked(alloc, b"n4", b"r1", 3)?, 0)?;
+    Ok(topology)
+}
+
+/// Whether a volume of copies in `y` other racks and on `z` other servers is placed at just these nodes.
+fn is_placed(
+    topology: &Topology,
+    alloc: Global,
+    y: u8,
+    z: u8,
+    ids: &[&[u8]],
+) -> Result<bool, Fail> {
+    let placement = Placement::new(0, y, z).ok_or("digits")?;
+    let placed = topology.place(alloc, placement)?;
+    Ok(
+        placed.len() == ids.len()
+            && placed
+                .iter()
+                .zip(ids)
+                .all(|(id, wanted)| id.as_slice() == *wanted),
+    )
+}
+
+#[test]
+fn the_nodes_with_the_most_room_are_taken(rt: HostRuntime) -> Result<(), Fail> {
+    let topology = four_nodes(rt.alloc())?;
+    assert!(rt; is_placed(&topology, rt.alloc(), 0, 0, &[b"n3"])?);
+    assert!(rt; is_placed(&topology, rt.alloc(), 1, 0, &[b"n3", b"n1"])?);
+    assert!(rt; is_placed(&topology, rt.alloc(), 1, 1, &[b"n3", b"n4", b"n1"])?);
+    Ok(())
+}
+
+#[test]
+fn no_place_tells_how_many_have_room(rt: HostRuntime) -> Result<(), Fail> {
+    let topology = four_nodes(rt.alloc())?;
+    let placement = Placement::new(0, 2, 0).ok_or("digits")?;
+    let wanted = topology.place(rt.alloc(), placement).err();
+    assert!(rt; wanted == Some(TopologyFault::NoPlace { wanted: 3, free: 4 }));
+    Ok(())
+}

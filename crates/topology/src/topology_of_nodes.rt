@@ -1,13 +1,15 @@
 ghost use Rattle.std.specs.Prelude.{◌≡◌, ◌≤◌, None, IfErr, IfOk, OnOk, OnErr, MatchOption};
 ghost use Rattle.std.specs.FinMap.{empty, get, len, remove};
-ghost use Rattle.topology.specs.Changes.{joined, beaten, with_report, reports_of, IsJoinFault, NeedsNode, AreHeard};
+ghost use Rattle.topology.specs.Changes.{joined, reported, member_of, beaten, with_report, reports_of, IsJoinFault, NeedsNode, AreHeard};
 ghost use Rattle.topology.specs.Told.{locations_of, locations_in, AreFirstReports};
 ghost use Rattle.topology.specs.Writable.{AreWritable};
+ghost use Rattle.topology.specs.Choices.{IsChoice, IsPlaceFault};
 
 use crate::fault::TopologyFault;
 use crate::member::{Member, Seat, find_seat};
 use crate::node::{Location, Node};
 use crate::numbered::Numbered;
+use crate::placing::{choose_any, free_members, ids_of};
 use crate::report::VolumeReport;
 use crate::volumes::first_reports;
 use crate::writable::{Kind, writable_volumes};
@@ -29,7 +31,7 @@ impl Model for Topology {
     ghost use Rattle.std.specs.FinMap.{code};
     ghost use Rattle.std.specs.Coded.{coded_list, coded_ℕ};
     ghost use Rattle.topology.specs.contracts.member.Member as member;
-    ghost use Rattle.topology.specs.Nodes.{Nodes, nodes_of, AreInOrder};
+    ghost use Rattle.topology.specs.Nodes.{Nodes, nodes_of, AreKept};
 
     ghost Value = { Nodes };
 
@@ -37,7 +39,7 @@ impl Model for Topology {
 
     ghost view = { λ topology. nodes_of topology.members.items };
 
-    ghost invariant = { λ topology. AreInOrder topology.members.items };
+    ghost invariant = { λ topology. AreKept topology.members.items };
 }
 
 impl Topology {
@@ -114,6 +116,36 @@ impl Topology {
         Ok(())
     }
 
+    /// Takes a node in, in place of one of its id, with what it reports from now on. `TooManyNodes` comes exactly where
+    /// 1,024 others are there, and an `Err` changes nothing.
+    pub fn report(
+        &mut self,
+        alloc: Global,
+        node: &Node,
+        volumes: &[VolumeReport],
+        now: u64,
+    ) -> Result<(), TopologyFault>
+        ensures ok { OnOk result (self.new ≡ reported node.now volumes.now now self.old) }
+        ensures err { OnErr result (self.new ≡ self.old) }
+        ensures cause { IfErr result (IsJoinFault node.now self.old) }
+        ensures full { get self.old node.now.id ≡ None → 1024 ≤ len self.old → result ≡ Err TopologyFault.TooManyNodes }
+    {
+        match find_seat(&self.members, node.id.as_slice()) {
+            Seat::Taken(at) => {
+                let member = told_member(alloc, node, volumes, now)?;
+                self.members[at] = member;
+            }
+            Seat::Free(at) => {
+                if self.members.len() >= MOST_NODES {
+                    return Err(TopologyFault::TooManyNodes);
+                }
+                let member = told_member(alloc, node, volumes, now)?;
+                self.members.insert(at, member)?;
+            }
+        }
+        Ok(())
+    }
+
     /// Takes out each node whose last join or beat lies more than 25 seconds before now. Takes no memory.
     pub fn expire(&mut self, now: u64)
         ensures { AreHeard now self.old self.new }
@@ -163,6 +195,22 @@ impl Topology {
         writable_volumes(alloc, &self.members, &kind)
     }
 
+    /// Distinct nodes with fewer volumes than room that meet a placement. `NoPlace` comes exactly where none do; it
+    /// tells how many are wanted, and how many nodes have room.
+    pub fn place(&self, alloc: Global, placement: Placement) -> Result<Vec<Name>, TopologyFault>
+        ensures ok { IfOk result (λ ids. IsChoice placement self.now ids.items) }
+        ensures cause { IfErr result (IsPlaceFault placement self.now) }
+    {
+        let free = free_members(alloc, &self.members)?;
+        match choose_any(alloc, &free, placement)? {
+            Some(chosen) => Ok(ids_of(alloc, &chosen)?),
+            None => Err(TopologyFault::NoPlace {
+                wanted: u32::from(placement.x + placement.y + placement.z + 1),
+                free: free.len() as u32,
+            }),
+        }
+    }
+
     /// Where a volume is reached, in the order of node ids.
     pub fn locations(&self, alloc: Global, volume: u32) -> Result<Vec<Location>, AllocError>
         ensures { IfOk result (λ locations. locations.items ≡ locations_of volume self.now) }
@@ -180,6 +228,22 @@ fn reports_of(alloc: Global, volumes: &[VolumeReport]) -> Result<Numbered<Volume
         reports.insert(report.volume, *report)?;
     }
     Ok(reports)
+}
+
+/// A node that was heard at a moment, with what it reports.
+fn told_member(
+    alloc: Global,
+    node: &Node,
+    volumes: &[VolumeReport],
+    now: u64,
+) -> Result<Member, AllocError>
+    ensures { IfOk result (λ member. member ≡ member_of node.now volumes.now now) }
+{
+    Ok(Member {
+        node: node.copy(alloc)?,
+        heard: now,
+        reports: reports_of(alloc, volumes)?,
+    })
 }
 
 /// Where a volume is reached at these nodes.

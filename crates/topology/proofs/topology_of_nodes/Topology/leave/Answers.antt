@@ -3,7 +3,7 @@ use Rattle.std.proofs.lemmas.Fn.{filter_same}
 use Rattle.std.specs.FinMap.{get, remove}
 use Rattle.topology.specs.Nodes.{nodes_of, has_id}
 use Rattle.topology.specs.declared.member.Member.{Member}
-use Rattle.topology.proofs.Places.{gap_in, place_in, remove_none, left_nodes, filter_in_order, present, match_some}
+use Rattle.topology.proofs.Places.{few_filter, gap_in, place_in, remove_none, left_nodes, filter_in_order, present, match_some}
 use Rattle.topology.proofs.topology_of_nodes.Topology.leave.Goals as goal
 
 pub returns-in_default-clause-after : goal.returns-in_default-clause-after
@@ -14,12 +14,12 @@ returns-in_default-clause-after c =
 pub invariant_of-self : goal.invariant_of-self
 invariant_of-self c =
     rw (filter_same _ (λ (member : Member). not (has_id c.args.id.now member)) _ (λ x b f' k. search rules) _ _ c.retain.ensures.filtered)
-    (filter_in_order (λ member. not (has_id c.args.id.now member)) c.self.inside.members.items c.self.invariant)
+    (filter_in_order (λ member. not (has_id c.args.id.now member)) c.self.inside.members.items c.self.invariant.0, few_filter _ c.self.inside.members.items c.self.invariant.1)
 
 pub returns-clause-after : goal.returns-clause-after
 returns-clause-after c =
     ap nodes_of (filter_same _ (λ (member : Member). not (has_id c.args.id.now member)) _ (λ x b f' k. search rules) _ _ c.retain.ensures.filtered)
-    ∙ left_nodes c.args.id.now c.self.inside.members.items c.self.invariant ∙ ap (λ nodes. remove nodes c.args.id.now) c.self.view_is
+    ∙ left_nodes c.args.id.now c.self.inside.members.items c.self.invariant.0 ∙ ap (λ nodes. remove nodes c.args.id.now) c.self.view_is
 
 pub returns-clause-answer : goal.returns-clause-answer
 returns-clause-answer c =

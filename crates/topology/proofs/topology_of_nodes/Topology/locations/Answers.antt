@@ -7,5 +7,5 @@ use Rattle.topology.proofs.topology_of_nodes.Topology.locations.Goals as goal
 
 pub returns : goal.returns
 returns c =
-    let same = ap (locations_in c.args.volume) (c.deref.ensures.value ∙ sym (values_nodes c.self.inside.members.items c.self.invariant) ∙ ap values c.self.view_is) in
+    let same = ap (locations_in c.args.volume) (c.deref.ensures.value ∙ sym (values_nodes c.self.inside.members.items c.self.invariant.0) ∙ ap values c.self.view_is) in
     IfOk-weaker c.locations_in.result _ _ (λ locations is. is ∙ same) c.locations_in.ensures

@@ -10,6 +10,6 @@ use Rattle.topology.proofs.topology_of_nodes.Topology.volumes.Goals as goal
 pub returns : goal.returns
 returns c =
     let reports = c.in_ok-reports.reports in
-    let members = c.deref.ensures.value ∙ sym (values_nodes c.self.inside.members.items c.self.invariant) ∙ ap values c.self.view_is in
+    let members = c.deref.ensures.value ∙ sym (values_nodes c.self.inside.members.items c.self.invariant.0) ∙ ap values c.self.view_is in
     let collected = items_from_collect c.collect.result c.collect.ensures.ran (YieldsList-from_copied (YieldsList-at c.copied.ensures.source (YieldsList-from_rest (values reports) c.values.ensures))) in
     IfOk-weaker c.collect.result _ _ (λ volumes is. (reports, (λ volume. c.in_ok-reports.ensures volume ∙ ap (first_report volume) members), is)) collected

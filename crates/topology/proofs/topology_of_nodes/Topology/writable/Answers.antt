@@ -7,5 +7,5 @@ use Rattle.topology.proofs.topology_of_nodes.Topology.writable.Goals as goal
 
 pub returns : goal.returns
 returns c =
-    let members = c.deref.ensures.value ∙ sym (values_nodes c.self.inside.members.items c.self.invariant) ∙ ap values c.self.view_is in
+    let members = c.deref.ensures.value ∙ sym (values_nodes c.self.inside.members.items c.self.invariant.0) ∙ ap values c.self.view_is in
     IfOk-weaker c.writable_volumes.result _ _ (λ volumes are. subst (λ members. AreWritableAt c.args.placement c.args.ttl c.args.limit members volumes.items) members are) c.writable_volumes.ensures
