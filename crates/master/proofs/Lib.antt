@@ -1,0 +1,5 @@
+mod Risen
+mod Messages
+mod Collected
+mod WrittenVolumes
+mod WrittenAgain
