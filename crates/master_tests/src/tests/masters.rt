@@ -55,6 +55,9 @@ fn is_server(location: &Location) -> bool {
 
 /// Whether so many keys are given from this one on, at the server.
 fn gives(master: &mut Master, alloc: Global, count: u64, text: &[u8]) -> Result<bool, Fail> {
+    if count == 0 {
+        return Ok(false);
+    }
     let assigned = master.assign(alloc, single()?, [0, 0], count, COOKIE, 0)?;
     Ok(
         assigned.count == count
