@@ -1,4 +1,5 @@
-ghost use Rattle.std.specs.Prelude.{◌≡◌, ◌≤◌, ℕ, IfOk, IfSome, IsErrOf, OnOk, OnErr, Some};
+ghost use Rattle.std.specs.Prelude.{◌≡◌, ◌≤◌, ℕ, IsErrOf, OnOk};
+ghost use Rattle.std.specs.Option.{option_map};
 ghost use Rattle.std.specs.FinMap.{empty};
 ghost use Rattle.weed_base.specs.Told.{HasCause, IsCauseOf};
 ghost use Rattle.name_core.specs.Namespace.{after_changes};
@@ -20,7 +21,7 @@ pub trait Keeper: Names {
 
     /// Leaves no name.
     fn clear(&mut self) -> Result<(), Failed>
-        ensures map { OnOk result (IfSome (Self.Names.map self.new) (λ names. names ≡ empty)) }
+        ensures map { OnOk result (Self.Names.map self.new ≡ option_map (λ _. empty) (Self.Names.map self.old)) }
         ensures beside { Self.Names.beside self.new ≡ Self.Names.beside self.old }
         ensures cause { HasCause (Self.Names.faults self.old) (Self.Names.faults self.new) result };
 
@@ -35,8 +36,7 @@ pub trait Keeper: Names {
     fn commit(&mut self, step: Record) -> Result<(), Failed>
         requires spare { put_count step.changes ≤ spare self.old }
         requires changes { MayBeMade step.changes }
-        ensures map { OnOk result (IfSome (Self.Names.map self.old) (λ names.
-            Self.Names.map self.new ≡ Some (after_changes step.changes names))) }
+        ensures map { OnOk result (Self.Names.map self.new ≡ option_map (after_changes step.changes) (Self.Names.map self.old)) }
         ensures beside { Self.Names.beside self.new ≡ Self.Names.beside self.old }
         ensures cause { HasCause (Self.Names.faults self.old) (Self.Names.faults self.new) result };
 }
