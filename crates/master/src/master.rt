@@ -134,8 +134,8 @@ impl Master {
     ) -> Result<Option<u32>, AllocError>
         ensures { IfOk result (λ volume. IsWritableVolume placement ttl self.now volume) }
     {
-        let volumes = self.topology.writable(alloc, placement, ttl, self.limit)?;
-        Ok(volumes.first().copied())
+        self.topology
+            .any_writable(alloc, placement, ttl, self.limit)
     }
 
     /// The first location of a volume that has some.

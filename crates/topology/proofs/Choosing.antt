@@ -57,28 +57,20 @@ differ_filter f p (x ∷ xs) h =
       | false ↦ differ_filter f p xs h.1
     ]
 
-short_main : (placement : Placement) (main : Member) (free picked : List Member) → IsPick Main main (placement.z + 1) free picked → length picked < placement.z + 1 → NoneAround placement main free
+pub short_main : (placement : Placement) (main : Member) (free picked : List Member) → IsPick Main main (placement.z + 1) free picked → length picked < placement.z + 1 → NoneAround placement main free
 short_main placement main free picked is short members are around =
     too_few Main main (placement.z + 1) free picked is short (filter (is_main (center_of main) (rack_of main)) members) (All-filter _ (Contains free) members are.there)
     (filter_passes (is_main (center_of main) (rack_of main)) members) (differ_filter id_of (is_main (center_of main) (rack_of main)) members are.differ) around.in_rack
 
-short_beside : (placement : Placement) (main : Member) (free picked : List Member) → IsPick Beside main placement.y free picked → length picked < placement.y → NoneAround placement main free
+pub short_beside : (placement : Placement) (main : Member) (free picked : List Member) → IsPick Beside main placement.y free picked → length picked < placement.y → NoneAround placement main free
 short_beside placement main free picked is short members are around =
     too_few Beside main placement.y free picked is short (filter (is_beside (center_of main) (rack_of main)) members) (All-filter _ (Contains free) members are.there)
     (filter_passes (is_beside (center_of main) (rack_of main)) members) around.racks around.beside
 
-short_away : (placement : Placement) (main : Member) (free picked : List Member) → IsPick Away main placement.x free picked → length picked < placement.x → NoneAround placement main free
+pub short_away : (placement : Placement) (main : Member) (free picked : List Member) → IsPick Away main placement.x free picked → length picked < placement.x → NoneAround placement main free
 short_away placement main free picked is short members are around =
     too_few Away main placement.x free picked is short (filter (is_away (center_of main)) members) (All-filter _ (Contains free) members are.there)
     (filter_passes (is_away (center_of main)) members) around.centers around.away
-
--- one of the three parts lacks nodes
-pub short : (placement : Placement) (main : Member) (free mains beside away : List Member)
-    → IsPick Main main (placement.z + 1) free mains → IsPick Beside main placement.y free beside → IsPick Away main placement.x free away
-    → (length mains < placement.z + 1) ⊎ ((length beside < placement.y) ⊎ (length away < placement.x)) → NoneAround placement main free
-short placement main free mains beside away a b c (inl lt) = short_main placement main free mains a lt
-short placement main free mains beside away a b c (inr (inl lt)) = short_beside placement main free beside b lt
-short placement main free mains beside away a b c (inr (inr lt)) = short_away placement main free away c lt
 
 -- ---- as many as are wanted
 

@@ -1,5 +1,5 @@
 -- Which volumes may be written.
-use Rattle.std.specs.Prelude.{◌≡◌, ℕ, ◌+◌, Bool, true, not, ◌&&◌, nat_eq, nat_le, nat_lt, List, filter, length}
+use Rattle.std.specs.Prelude.{◌≡◌, ℕ, ◌+◌, Bool, true, false, not, Option, MatchOption, ◌&&◌, nat_eq, nat_le, nat_lt, List, filter, length}
 use Rattle.std.specs.Option.{option_map_or}
 use Rattle.std.specs.List.{list_all, list_any}
 use Rattle.std.specs.List.Sorted.{IsStrictlySortedBy}
@@ -42,3 +42,8 @@ pub record AreWritableAt (placement : Placement) (ttl : List ℕ) (limit : ℕ) 
 -- The same of nodes by their ids.
 abbrev pub AreWritable : Placement → List ℕ → ℕ → Nodes → List ℕ → Type 0
 AreWritable placement ttl limit nodes volumes = AreWritableAt placement ttl limit (values nodes) volumes
+
+-- A volume that may be written at these nodes, or none where there is none.
+abbrev pub IsWritableAt : Placement → List ℕ → ℕ → List Member → Option ℕ → Type 0
+IsWritableAt placement ttl limit members found =
+    MatchOption found ((volume : ℕ) → is_writable placement ttl limit members volume ≡ false) (λ volume. is_writable placement ttl limit members volume ≡ true)

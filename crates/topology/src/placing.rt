@@ -91,12 +91,15 @@ fn choose<'a>(
     ensures { IfOk result (λ found. MatchOption found (NoneAround placement main.now (shown free.now)) (λ chosen. AreAround placement main.now (shown free.now) (shown chosen.items))) }
 {
     let mut chosen = pick(alloc, free, Part::Main, main, usize::from(placement.z) + 1)?;
+    if chosen.len() <= usize::from(placement.z) {
+        return Ok(None);
+    }
     let mut beside = pick(alloc, free, Part::Beside, main, usize::from(placement.y))?;
+    if beside.len() < usize::from(placement.y) {
+        return Ok(None);
+    }
     let mut away = pick(alloc, free, Part::Away, main, usize::from(placement.x))?;
-    if chosen.len() <= usize::from(placement.z)
-        || beside.len() < usize::from(placement.y)
-        || away.len() < usize::from(placement.x)
-    {
+    if away.len() < usize::from(placement.x) {
         return Ok(None);
     }
     chosen.append(&mut beside)?;

@@ -1,8 +1,8 @@
 ghost use Rattle.std.specs.Prelude.{◌≡◌, ◌≤◌, None, IfErr, IfOk, OnOk, OnErr, MatchOption};
-ghost use Rattle.std.specs.FinMap.{empty, get, len, remove};
+ghost use Rattle.std.specs.FinMap.{empty, get, len, remove, values};
 ghost use Rattle.topology.specs.Changes.{joined, reported, member_of, beaten, with_report, reports_of, IsJoinFault, NeedsNode, AreHeard};
 ghost use Rattle.topology.specs.Told.{locations_of, locations_in, AreFirstReports};
-ghost use Rattle.topology.specs.Writable.{AreWritable};
+ghost use Rattle.topology.specs.Writable.{AreWritable, IsWritableAt};
 ghost use Rattle.topology.specs.Choices.{IsChoice, IsPlaceFault};
 
 use crate::fault::TopologyFault;
@@ -12,7 +12,7 @@ use crate::numbered::Numbered;
 use crate::placing::{choose_any, free_members, ids_of};
 use crate::report::VolumeReport;
 use crate::volumes::first_reports;
-use crate::writable::{Kind, writable_volumes};
+use crate::writable::{Kind, writable_volume, writable_volumes};
 use needle::Placement;
 use std::alloc::{AllocError, Global};
 use std::marker::Model;
@@ -193,6 +193,24 @@ impl Topology {
             limit,
         };
         writable_volumes(alloc, &self.members, &kind)
+    }
+
+    /// A volume of this placement and time to live that may be written, if there is one.
+    pub fn any_writable(
+        &self,
+        alloc: Global,
+        placement: Placement,
+        ttl: [u8; 2],
+        limit: u64,
+    ) -> Result<Option<u32>, AllocError>
+        ensures { IfOk result (λ found. IsWritableAt placement ttl limit (values self.now) found) }
+    {
+        let kind = Kind {
+            placement,
+            ttl,
+            limit,
+        };
+        writable_volume(alloc, &self.members, &kind)
     }
 
     /// Distinct nodes with fewer volumes than room that meet a placement. `NoPlace` comes exactly where none do; it

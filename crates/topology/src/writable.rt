@@ -1,6 +1,6 @@
 ghost use Rattle.std.specs.Prelude.{◌≡◌, ℕ, IfOk, OnOk, Some};
 ghost use Rattle.std.specs.FinMap.{get, entries};
-ghost use Rattle.topology.specs.Writable.{copies, is_open, AreWritableAt};
+ghost use Rattle.topology.specs.Writable.{copies, is_open, is_writable, AreWritableAt, IsWritableAt};
 ghost use Rattle.topology.specs.Tallies.{untold, told, tally_at, tally_of, is_met, met_in};
 
 use crate::member::Member;
@@ -116,4 +116,51 @@ pub(crate) fn writable_volumes(
 {
     let tallies = tallies_of(alloc, members, kind)?;
     met_volumes(alloc, &tallies)
+}
+
+/// What these nodes tell of a volume.
+fn tally_of(members: &[Member], volume: u32, kind: &Kind) -> Tally
+    ensures { result ≡ tally_of kind.now members.now volume }
+{
+    let mut tally = kind.untold();
+    for member in members {
+        match member.reports.get(volume) {
+            Some(report) => tally = kind.told(tally, report),
+            None => {}
+        }
+    }
+    tally
+}
+
+/// The volume of a report that lets it be written, if there is one. Other nodes may not let it.
+fn first_open(members: &[Member], kind: &Kind) -> Option<u32> {
+    for member in members {
+        match member.reports.values().find(|report| kind.is_open(report)) {
+            Some(report) => return Some(report.volume),
+            None => {}
+        }
+    }
+    None
+}
+
+/// Whether a volume may be written at these nodes.
+fn is_writable(members: &[Member], volume: u32, kind: &Kind) -> bool
+    ensures { result ≡ is_writable kind.now.placement kind.now.ttl kind.now.limit members.now volume }
+{
+    tally_of(members, volume, kind).is_met()
+}
+
+/// A volume of a kind that may be written at these nodes, if there is one. Mostly the first that one node lets be
+/// written is one, so that not all have to be told.
+pub(crate) fn writable_volume(
+    alloc: Global,
+    members: &[Member],
+    kind: &Kind,
+) -> Result<Option<u32>, AllocError>
+    ensures { IfOk result (λ found. IsWritableAt kind.now.placement kind.now.ttl kind.now.limit members.now found) }
+{
+    match first_open(members, kind) {
+        Some(volume) if is_writable(members, volume, kind) => Ok(Some(volume)),
+        _ => Ok(writable_volumes(alloc, members, kind)?.first().copied()),
+    }
 }
