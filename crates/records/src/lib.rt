@@ -11,8 +11,10 @@ mod meaning;
 mod measure;
 mod record_reading;
 mod record_writing;
+mod same_entry;
 
 pub use counting::record_length;
-pub use laws::written_entries_are_read;
+pub use laws::{same_entries_are_equal, written_entries_are_read};
 pub use record_reading::read_record;
 pub use record_writing::write_record;
+pub use same_entry::is_same_entry;
