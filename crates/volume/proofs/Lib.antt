@@ -16,3 +16,4 @@ pub mod Mended
 pub mod MendedFiles
 pub mod Grown
 pub mod Cookies
+pub mod Deleted

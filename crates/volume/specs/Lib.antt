@@ -11,3 +11,4 @@ pub mod Reads
 pub mod Appending
 pub mod Pieces
 pub mod Writes
+pub mod Deletes

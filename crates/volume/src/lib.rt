@@ -3,6 +3,7 @@
 
 mod appending;
 mod create;
+mod deleting;
 mod fault;
 mod file_names;
 mod held;

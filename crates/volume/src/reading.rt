@@ -82,7 +82,8 @@ fn needle_in(
     size: u32,
     at: u64,
 ) -> Result<Needle, VolumeFault>
-    ensures { Yields version text.now key size at result }
+    ensures yields { Yields version text.now key size at result }
+    ensures small { IfOk result (λ needle. length needle.body < 2 ^ 32) }
 {
     if !tells_of(text, key, size) {
         return Err(no_item(at));
@@ -109,6 +110,7 @@ impl Volume {
         ensures gets { IfSome (D.files disk.old) (λ files. (items : List ReadItem) → get self.now.index.spots key ≡ Some spot
             → Holds self.now items files → Gets (get (contents_of items) key) result) }
         ensures fault { IfErr result MayFailToRead }
+        ensures small { IfOk result (λ needle. length needle.body < 2 ^ 32) }
         ensures looks { Looks D.Disk disk.old disk.new }
         ensures cause { IsCauseOf (D.faults disk.old) (D.faults disk.new) (IsErrOf result VolumeFault.DiskFault) }
         ensures beside { D.beside disk.new ≡ D.beside disk.old }
@@ -135,6 +137,7 @@ impl Volume {
         // By the contents.
         ensures contents { IfSome (D.files disk.old) (λ files. (items : List ReadItem) → Holds self.old items files
             → ReadsFrom (get (contents_of items) key) cookie result) }
+        ensures small { IfOk result (λ needle. length needle.body < 2 ^ 32) }
         ensures same { self.new ≡ self.old }
         ensures looks { Looks D.Disk disk.old disk.new }
         ensures cause { IsCauseOf (D.faults disk.old) (D.faults disk.new) (IsErrOf result VolumeFault.DiskFault) }
