@@ -17,3 +17,4 @@ pub mod MendedFiles
 pub mod Grown
 pub mod Cookies
 pub mod Deleted
+pub mod Living

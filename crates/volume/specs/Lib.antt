@@ -12,3 +12,4 @@ pub mod Appending
 pub mod Pieces
 pub mod Writes
 pub mod Deletes
+pub mod Lives

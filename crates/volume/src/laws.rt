@@ -6,6 +6,7 @@ ghost use Rattle.needle.specs.declared.version.Version.{Version};
 ghost use Rattle.needle_index.specs.Text.{entered, entry_for};
 ghost use Rattle.volume.specs.Contents.{HoldsAt, AreItems, end_of, contents_of, index_of, stored};
 ghost use Rattle.volume.specs.Spots.{Leads};
+ghost use Rattle.volume.specs.Lives.{live_of};
 
 /// A text has one list of items, and so one map of contents.
 pub fn a_text_has_one_list_of_items()
@@ -26,4 +27,9 @@ pub fn an_item_at_the_end_is_the_last()
 pub fn an_index_leads_to_the_contents()
     ensures { (version : Version) (text : List ℕ) (items : List ReadItem) (key : ℕ) → AreBytes (take (end_of 8 items) text) → AreItems version text 8 items
         → Leads version text key (get (index_of items) key) (get (contents_of items) key) }
+{}
+
+/// The items that lived at some moment leave, with those that came behind it, what all items leave.
+pub fn a_vacuum_keeps_the_contents()
+    ensures { (begun since : List ReadItem) → contents_of (live_of begun ++ since) ≡ contents_of (begun ++ since) }
 {}
