@@ -67,11 +67,15 @@ last (Gone cookie gone) more key lives same untold none = none
 here : (item : Item) (more : List ReadItem) (key : ℕ) (all lives : Contents) → nat_eq (key_of item) key ≡ true → get lives key ≡ None
     → (t : Bool) → is_told_in more (key_of item) ≡ t → Ready more key (stored all item) (next_of item more lives)
 here item more key all lives same none true told =
-    inl (subst (λ (k : ℕ). is_told_in more k ≡ true) (same_key (key_of item) key same) told,
-    ap (λ (b : Bool). get (cond b (stored lives item) lives) key) (dead item more told) ∙ none)
+    inl (
+      subst (λ (k : ℕ). is_told_in more k ≡ true) (same_key (key_of item) key same) told,
+      ap (λ (b : Bool). get (cond b (stored lives item) lives) key) (dead item more told) ∙ none,
+    )
 here item more key all lives same none false untold =
-    inr (subst (λ (k : ℕ). is_told_in more k ≡ false) (same_key (key_of item) key same) untold,
-    stored_same all item key same ∙ sym (last item more key lives same untold none))
+    inr (
+      subst (λ (k : ℕ). is_told_in more k ≡ false) (same_key (key_of item) key same) untold,
+      stored_same all item key same ∙ sym (last item more key lives same untold none),
+    )
 
 step : (item : Item) (more : List ReadItem) (key : ℕ) (all lives : Contents) (t : Bool) → nat_eq (key_of item) key ≡ t
     → ((cond t true (is_told_in more key) ≡ true) × (get lives key ≡ None)) ⊎ ((cond t true (is_told_in more key) ≡ false) × (get all key ≡ get lives key))

@@ -23,7 +23,8 @@ mod writing;
 pub use fault::VolumeFault;
 pub use held::{Mode, Volume};
 pub use laws::{
-    a_text_has_one_list_of_items, a_vacuum_keeps_the_contents, an_index_leads_to_the_contents, an_item_at_the_end_is_the_last,
+    a_text_has_one_list_of_items, a_vacuum_keeps_the_contents, an_index_leads_to_the_contents,
+    an_item_at_the_end_is_the_last,
 };
 pub use open::Opened;
 pub use writing::Written;
