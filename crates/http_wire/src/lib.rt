@@ -11,4 +11,4 @@ pub use answer::{Answer, AnswerHeaders, write_response};
 pub use inbox::Inbox;
 pub use next::{Next, next_request};
 pub use session_end::SessionEnd;
-pub use write::WriteFault;
+pub use write::{WriteFault, write_all};

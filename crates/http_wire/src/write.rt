@@ -11,7 +11,7 @@ use weed_base::Sink;
 #[error("a write failed")]
 pub struct WriteFault;
 
-/// Writes all the bytes, or first ones of them, not all, where a write fails.
+/// Writes all the bytes, or first ones of them, not all, where a write fails. Takes no memory.
 pub fn write_all<K: Sink>(to: &mut K, bytes: &[u8]) -> Result<(), WriteFault>
     ensures bytes { WritesAll (K.written to.old) (K.written to.new) result bytes.now }
     ensures cause { HasCause (K.faults to.old) (K.faults to.new) result }

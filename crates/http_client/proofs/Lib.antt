@@ -1,0 +1,2 @@
+pub mod RequestTextLemmas
+pub mod SentLemmas
