@@ -18,3 +18,4 @@ pub mod Grown
 pub mod Cookies
 pub mod Deleted
 pub mod Living
+pub mod Fitting

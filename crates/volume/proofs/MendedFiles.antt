@@ -17,6 +17,7 @@ use Rattle.volume.specs.declared.held.Volume.{Volume}
 use Rattle.volume.specs.declared.mending.IndexPlan.{IndexPlan}
 use Rattle.volume.specs.declared.open.Opened.{Opened}
 use Rattle.volume.specs.Contents.{AreItems, HoldsAt, end_of}
+use Rattle.volume.specs.Garbage.{Fit}
 use Rattle.volume.specs.FileNames.{name_of}
 use Rattle.volume.specs.Holds.{Holds}
 use Rattle.volume.specs.Opening.{HasIndex, IsOpened, IsPlanned, IsRead, StandsFor, mended, reindexed, trimmed}
@@ -83,7 +84,8 @@ apart_index : (id : ℕ) → name_of id Items ≢ name_of id Index
 apart_index id = differ id Items Index items_index
 
 module _ (volume : Volume) (items : List ReadItem) (files : Files) (held : Holds volume items files) (plan : IndexPlan)
-    (planned : IsPlanned volume.index.spots (name_of volume.id Index) plan files) (two : length volume.block.ttl ≡ 2) where
+    (planned : IsPlanned volume.index.spots (name_of volume.id Index) plan files) (two : length volume.block.ttl ≡ 2)
+    (fit : Fit volume.block.version volume.index.spots volume.end) where
   abbrev later : Volume
   later = record {
     id = volume.id;
@@ -94,6 +96,7 @@ module _ (volume : Volume) (items : List ReadItem) (files : Files) (held : Holds
     greatest = volume.greatest;
     index = volume.index;
     broken = volume.broken;
+    fit = fit;
   }
 
   abbrev text : List ℕ
@@ -174,10 +177,10 @@ module _ (volume : Volume) (items : List ReadItem) (files : Files) (held : Holds
         );
       }
 
-pub told_opened : (told new : Option Files) (volume : Volume) (plan : IndexPlan) (opened : Opened) (was : Bool) → length volume.block.ttl ≡ 2 → IfSome told (IsRead volume.id volume)
+pub told_opened : (told new : Option Files) (volume : Volume) (plan : IndexPlan) (opened : Opened) (was : Bool) (fit : Fit volume.block.version volume.index.spots volume.end) → length volume.block.ttl ≡ 2 → IfSome told (IsRead volume.id volume)
     → IfSome told (IsPlanned volume.index.spots (name_of volume.id Index) plan) → new ≡ option_map (mended volume.id volume.end plan.text) told
     → IfSome told (λ files. was ≡ nat_lt volume.end (length (content files (name_of volume.id Items)))) → opened.cut_from ≡ (if was then Some volume.end else None) → opened.rewrote_index ≡ is_some plan.text
-    → BothTold (IsOpened volume.id ReadWrite (record { id = volume.id; block = volume.block; mode = ReadWrite; end = volume.end; index_end = plan.len; greatest = volume.greatest; index = volume.index; broken = volume.broken }) opened) told new
-told_opened None new volume plan opened was two read planned is cut from rewrote = subst (BothTold (IsOpened volume.id ReadWrite (record { id = volume.id; block = volume.block; mode = ReadWrite; end = volume.end; index_end = plan.len; greatest = volume.greatest; index = volume.index; broken = volume.broken }) opened) None) (sym is) tt
-told_opened (Some files) new volume plan opened was two read planned is cut from rewrote =
-    subst (BothTold (IsOpened volume.id ReadWrite (record { id = volume.id; block = volume.block; mode = ReadWrite; end = volume.end; index_end = plan.len; greatest = volume.greatest; index = volume.index; broken = volume.broken }) opened) (Some files)) (sym is) (opened_for_writing volume read.items files read.held plan planned two opened was cut from rewrote)
+    → BothTold (IsOpened volume.id ReadWrite (record { id = volume.id; block = volume.block; mode = ReadWrite; end = volume.end; index_end = plan.len; greatest = volume.greatest; index = volume.index; broken = volume.broken; fit = fit }) opened) told new
+told_opened None new volume plan opened was fit two read planned is cut from rewrote = subst (BothTold (IsOpened volume.id ReadWrite (record { id = volume.id; block = volume.block; mode = ReadWrite; end = volume.end; index_end = plan.len; greatest = volume.greatest; index = volume.index; broken = volume.broken; fit = fit }) opened) None) (sym is) tt
+told_opened (Some files) new volume plan opened was fit two read planned is cut from rewrote =
+    subst (BothTold (IsOpened volume.id ReadWrite (record { id = volume.id; block = volume.block; mode = ReadWrite; end = volume.end; index_end = plan.len; greatest = volume.greatest; index = volume.index; broken = volume.broken; fit = fit }) opened) (Some files)) (sym is) (opened_for_writing volume read.items files read.held plan planned two fit opened was cut from rewrote)

@@ -2,6 +2,7 @@ pub mod Faults
 pub mod FileNames
 pub mod Contents
 pub mod Spots
+pub mod Garbage
 pub mod Holds
 pub mod Making
 pub mod Window

@@ -4,6 +4,7 @@ ghost use Rattle.weed_base.specs.Files.{BothTold};
 ghost use Rattle.needle.specs.Fields.{AreBytes};
 ghost use Rattle.needle_index.specs.Text.{entry_text};
 ghost use Rattle.volume.specs.Appending.{Appends, ChangesBehind, EndsAt, GrowBy, HasTakenIn, KeepsFront};
+ghost use Rattle.volume.specs.Garbage.{IsEntryOf};
 ghost use Rattle.volume.specs.Pieces.{joined};
 ghost use Rattle.volume.specs.Making.{ChangesOnly};
 ghost use Rattle.volume.specs.FileNames.{name_of};
@@ -93,6 +94,7 @@ impl Volume {
         requires room { 0 < self.old.index.spare }
         requires end { self.old.end + taken < 2 ^ 64 }
         requires index_end { self.old.index_end + 16 < 2 ^ 64 }
+        requires entry { IsEntryOf self.old.block.version self.old.end taken entry.now }
         ensures { HasTakenIn self.old self.new entry.now taken }
     {
         let _ = self.index.enter(entry);
@@ -113,6 +115,7 @@ impl Volume {
         requires index { IfSome (D.files disk.old) (EndsAt (name_of self.old.id Index) self.old.index_end) }
         requires room { 0 < self.old.index.spare }
         requires within { self.old.end + taken ≤ 2 ^ 35 }
+        requires entry { IsEntryOf self.old.block.version self.old.end taken entry.now }
         ensures taken { OnOk result (HasTakenIn self.old self.new entry.now taken) }
         ensures done { OnOk result (BothTold (GrowBy self.old.id (joined pieces.now) (entry_text entry.now)) (D.files disk.old) (D.files disk.new)) }
         ensures behind { BothTold (ChangesBehind self.old.id self.old.end self.old.index_end) (D.files disk.old) (D.files disk.new) }

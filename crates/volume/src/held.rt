@@ -1,4 +1,6 @@
 ghost use Rattle.std.specs.Prelude.{◌≡◌};
+ghost use Rattle.needle_index.specs.Bytes.{live};
+ghost use Rattle.volume.specs.Garbage.{Fit, dead, permille};
 
 use needle::SuperBlock;
 use needle_index::IndexMap;
@@ -25,6 +27,18 @@ pub struct Volume {
     pub(crate) index: IndexMap,
     /// A writing call met a fault of the disk.
     pub(crate) broken: bool,
+    pub ghost fit: { Fit block.version index.spots end },
+}
+
+/// How many thousandths a part is of itself and the rest, rounded down; 0 where both are 0.
+fn permille(part: u64, rest: u64) -> u32
+    ensures { result ≡ permille part rest }
+{
+    let whole = u128::from(part) + u128::from(rest);
+    if whole == 0 {
+        return 0;
+    }
+    (u128::from(part) * 1000 / whole) as u32
 }
 
 impl Volume {
@@ -40,5 +54,17 @@ impl Volume {
         ensures { result ≡ self.now.greatest }
     {
         self.greatest
+    }
+
+    /// How many thousandths of the bytes behind the superblock are of no needle, rounded down; 0 where there are
+    /// no bytes. Takes no memory.
+    pub fn garbage_permille(&self) -> u32
+        ensures { result ≡ permille (dead self.now.block.version self.now.index.spots self.now.end) (live self.now.block.version self.now.index.spots) }
+    {
+        let version = self.block.version;
+        permille(
+            self.index.dead_bytes(version, self.end),
+            self.index.live_bytes(version),
+        )
     }
 }

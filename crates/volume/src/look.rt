@@ -138,6 +138,7 @@ pub(crate) fn look<D: Disk>(
     ensures of { IfOk result (λ _. IfSome (D.files disk.old) (λ files. IsOf (content files name.now) window.new)) }
     ensures meets { IfOk result (λ seen. IfSome (D.files disk.old) (λ files. Meets version (content files name.now) place seen)) }
     ensures within { IfOk result (λ seen. IfSome seen (λ seen. (place + seen.taken ≤ 2 ^ 35 - 8) × (24 ≤ seen.taken))) }
+    ensures taken { IfOk result (λ seen. IfSome seen (λ seen. seen.taken ≡ padded version seen.size)) }
     ensures looks { Looks D.Disk disk.old disk.new }
     ensures cause { HasCause (D.faults disk.old) (D.faults disk.new) result }
     ensures beside { D.beside disk.new ≡ D.beside disk.old }

@@ -25,7 +25,7 @@ pub struct Opened {
 fn take_over<D: Disk>(
     alloc: Global,
     disk: &mut D,
-    volume: Volume,
+    mut volume: Volume,
 ) -> Result<(Volume, Opened), VolumeFault>
     requires marks { D.MARKS_ONLY ≡ false }
     requires read { IfSome (D.files disk.old) (IsRead volume.id volume) }
@@ -42,11 +42,8 @@ fn take_over<D: Disk>(
         cut_from: was_cut.then_some(volume.end),
         rewrote_index: plan.text.is_some(),
     };
-    let volume = Volume {
-        mode: Mode::ReadWrite,
-        index_end: plan.len,
-        ..volume
-    };
+    volume.mode = Mode::ReadWrite;
+    volume.index_end = plan.len;
     Ok((volume, opened))
 }
 

@@ -4,6 +4,7 @@ ghost use Rattle.weed_base.specs.Files.{content};
 ghost use Rattle.weed_base.specs.DiskCalls.{Looks};
 ghost use Rattle.needle.specs.declared.item.ReadItem.{ReadItem};
 ghost use Rattle.needle.specs.Fields.{AreBytes};
+ghost use Rattle.volume.specs.Garbage.{Fit};
 ghost use Rattle.volume.specs.Opening.{BeginsWithBlock, IsBlockFault, IsRead, IsUnread};
 ghost use Rattle.volume.specs.Walk.{IsWalked};
 
@@ -44,6 +45,7 @@ fn walk_file<D: Disk>(
 ) -> Result<Walked, VolumeFault>
     requires front { IfSome (D.files disk.old) (λ files. AreBytes (take 8 (content files name.now))) }
     ensures walked { IfOk result (λ walked. IfSome (D.files disk.old) (λ files. (items : List ReadItem) × IsWalked version (content files name.now) walked items)) }
+    ensures fit { IfOk result (λ walked. Fit version walked.index.spots walked.end) }
     ensures fault { IfErr result (λ fault. (fault ≡ VolumeFault.DiskFault) ⊎ (fault ≡ VolumeFault.Memory)) }
     ensures looks { Looks D.Disk disk.old disk.new }
     ensures cause { IsCauseOf (D.faults disk.old) (D.faults disk.new) (IsErrOf result VolumeFault.DiskFault) }

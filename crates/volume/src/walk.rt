@@ -5,6 +5,7 @@ ghost use Rattle.weed_base.specs.DiskCalls.{Looks};
 ghost use Rattle.needle.specs.Fields.{AreBytes};
 ghost use Rattle.needle.specs.declared.item.ReadItem.{ReadItem};
 ghost use Rattle.needle_index.specs.Text.{entered, entry_at};
+ghost use Rattle.volume.specs.Garbage.{Fit};
 ghost use Rattle.volume.specs.Window.{IsOf};
 ghost use Rattle.volume.specs.Walk.{IsWalked, WalksOn};
 
@@ -55,6 +56,7 @@ fn step<D: Disk>(
     requires len { IfSome (D.files disk.old) (λ files. len ≡ length (content files name.now)) }
     ensures of { IfOk result (λ _. IfSome (D.files disk.old) (λ files. IsOf (content files name.now) window.new)) }
     ensures goes { IfOk result (λ goes. IfSome (D.files disk.old) (λ files. WalksOn version (content files name.now) walked.old walked.new goes)) }
+    ensures fit { IfOk result (λ _. Fit version walked.old.index.spots walked.old.end → Fit version walked.new.index.spots walked.new.end) }
     ensures on { IfOk result (λ goes. goes ≡ true → (walked.old.end < walked.new.end) × (walked.new.end ≤ 2 ^ 35 - 8)) }
     ensures fault { IfErr result (λ fault. (fault ≡ VolumeFault.DiskFault) ⊎ (fault ≡ VolumeFault.Memory)) }
     ensures looks { Looks D.Disk disk.old disk.new }
@@ -81,6 +83,7 @@ pub(crate) fn walk<D: Disk>(
     requires len { IfSome (D.files disk.old) (λ files. len ≡ length (content files name.now)) }
     requires front { IfSome (D.files disk.old) (λ files. AreBytes (take 8 (content files name.now))) }
     ensures walked { IfOk result (λ walked. IfSome (D.files disk.old) (λ files. (items : List ReadItem) × IsWalked version (content files name.now) walked items)) }
+    ensures fit { IfOk result (λ walked. Fit version walked.index.spots walked.end) }
     ensures fault { IfErr result (λ fault. (fault ≡ VolumeFault.DiskFault) ⊎ (fault ≡ VolumeFault.Memory)) }
     ensures looks { Looks D.Disk disk.old disk.new }
     ensures cause { IsCauseOf (D.faults disk.old) (D.faults disk.new) (IsErrOf result VolumeFault.DiskFault) }

@@ -1,7 +1,11 @@
-use Rattle.std.proofs.Common.{subst}
+use Rattle.std.proofs.Common.{◌≡◌, ℕ, refl, subst, sym}
 use Rattle.std.specs.Prelude.{IfSome}
 use Rattle.weed_base.specs.Files.{content}
+use Rattle.needle.specs.Layout.{padded}
+use Rattle.needle_index.specs.Text.{entry_at}
+use Rattle.volume.specs.Garbage.{Fit}
 use Rattle.volume.specs.Walk.{Meets}
+use Rattle.volume.proofs.Fitting.{fits_on}
 use Rattle.volume.proofs.Walked.{told_on}
 use Rattle.volume.proofs.walk.step.Goals as goal
 
@@ -11,3 +15,18 @@ returns-in_ok-enter-in-Some-clause-goes g c =
     told_on told c.args.name.now c.args.version c.args.walked.now c.enter.new.self c.in-Some.seen
     (subst (λ seen. IfSome told (λ files. Meets c.args.version (content files c.args.name.now) c.args.walked.now.end seen)) c.in-Some.is c.in_ok-seen.ensures.meets)
     c.in_ok-enter-in-Some.ensures.index c.in_ok-enter-in-Some.ensures.end c.in_ok-enter-in-Some.ensures.greatest
+
+pub returns-in_ok-enter-in-Some-clause-fit : goal.returns-in_ok-enter-in-Some-clause-fit
+returns-in_ok-enter-in-Some-clause-fit g c = λ fit.
+    let old = c.args.walked.now in
+    let seen = c.in-Some.seen in
+    let new = c.enter.new.self in
+    subst (λ (n : ℕ). Fit c.args.version new.index.spots n) (sym c.in_ok-enter-in-Some.ensures.end)
+    (fits_on c.args.version old.index.spots new.index.spots old.end old.end seen.taken (entry_at old.end seen.key seen.size)
+    (record {
+      key = seen.key;
+      size = seen.size;
+      entry_is = refl;
+      taken_is = subst (λ seen. IfSome seen (λ seen. seen.taken ≡ padded c.args.version seen.size)) c.in-Some.is c.in_ok-seen.ensures.taken;
+    })
+    c.in_ok-enter-in-Some.ensures.index fit)

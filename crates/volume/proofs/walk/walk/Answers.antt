@@ -1,10 +1,22 @@
-use Rattle.std.proofs.Common.{subst}
+use Rattle.std.proofs.Common.{refl, rules, subst}
 use Rattle.std.specs.Prelude.{IfSome}
 use Rattle.weed_base.specs.Files.{content}
 use Rattle.volume.specs.Walk.{WalksOn}
 use Rattle.volume.proofs.Told.{moved}
-use Rattle.volume.proofs.Walked.{told_ended}
+use Rattle.volume.proofs.Fitting.{fits_none}
+use Rattle.volume.proofs.Walked.{told_begun, told_ended}
 use Rattle.volume.proofs.walk.walk.Goals as goal
+
+pub loop-walked-init : goal.loop-walked-init
+loop-walked-init g c = (
+  search rules,
+  search rules,
+  search rules,
+  search rules,
+  search rules,
+  told_begun (g.D.Disk.files c.args.disk.now) c.args.name.now c.args.version _ c.new-2.ensures refl refl c.requires.front,
+  fits_none c.args.version c.new-2.result.spots c.new-2.ensures,
+)
 
 pub returns-clause-walked : goal.returns-clause-walked
 returns-clause-walked g c =
