@@ -11,6 +11,7 @@ pub mod Opening
 pub mod Reads
 pub mod Appending
 pub mod Pieces
+pub mod Copying
 pub mod Writes
 pub mod Deletes
 pub mod Lives

@@ -1,4 +1,4 @@
-ghost use Rattle.std.specs.Prelude.{◌≡◌, ◌+◌, ◌-◌, ◌≤◌, ◌<◌, ◌^◌, ◌↔◌, IsTrue, IsOk, ℕ, length, take, drop, IfOk, IfSome, Some};
+ghost use Rattle.std.specs.Prelude.{◌≡◌, ◌+◌, ◌-◌, ◌≤◌, ◌<◌, ◌^◌, ◌↔◌, IsOk, is_ok, ℕ, length, take, drop, IfOk, IfSome, Some};
 ghost use Rattle.weed_base.specs.Told.{HasCause};
 ghost use Rattle.weed_base.specs.Files.{content};
 ghost use Rattle.weed_base.specs.DiskCalls.{Looks};
@@ -11,7 +11,7 @@ ghost use Rattle.volume.specs.Walk.{HasHead, IsJudged, Meets};
 
 use crate::summing::sum_of;
 use crate::window::{ROOM, Window};
-use needle::{Head, Version, padded_len};
+use needle::{Head, NeedleFault, Version, padded_len};
 use weed_base::{Disk, Failed, FileName};
 
 /// The most data of an item, in bytes.
@@ -52,8 +52,8 @@ fn head_at<D: Disk>(
     Ok(Some(Head::read(bytes)))
 }
 
-/// Whether what stands behind the data of an item, so many bytes from a place on, makes it whole.
-fn has_tail<D: Disk>(
+/// What is said of an item by what stands behind its data, so many bytes from a place on.
+fn check_tail<D: Disk>(
     disk: &mut D,
     name: &FileName,
     window: &mut Window,
@@ -62,16 +62,16 @@ fn has_tail<D: Disk>(
     sum: u32,
     place: u64,
     len: usize,
-) -> Result<bool, Failed>
+) -> Result<Result<(), NeedleFault>, Failed>
     requires of { IfSome (D.files disk.old) (λ files. IsOf (content files name.now) window.old) }
     requires short { len ≤ 1048576 }
     requires whole { padded version head.now.size ≤ 20 + data_behind head.now + len }
     requires there { IfSome (D.files disk.old) (λ files. place + len ≤ length (content files name.now)) }
     ensures of { IfOk result (λ _. IfSome (D.files disk.old) (λ files. IsOf (content files name.now) window.new)) }
     ensures bytes { IfOk result (λ _. IfSome (D.files disk.old) (λ files. AreBytes (take len (drop place (content files name.now))))) }
-    ensures checked { IfOk result (λ is. IfSome (D.files disk.old) (λ files. (start : ℕ) → place ≡ start + 20 + data_behind head.now
+    ensures checked { IfOk result (λ verdict. IfSome (D.files disk.old) (λ files. (start : ℕ) → place ≡ start + 20 + data_behind head.now
         → IsHead (drop start (content files name.now)) head.now → IsSummed (content files name.now) (start + 20) (data_behind head.now) sum
-        → IsTrue is ↔ IsOk (read_at version (drop start (content files name.now))))) }
+        → IsOk verdict ↔ IsOk (read_at version (drop start (content files name.now))))) }
     ensures looks { Looks D.Disk disk.old disk.new }
     ensures cause { HasCause (D.faults disk.old) (D.faults disk.new) result }
     ensures beside { D.beside disk.new ≡ D.beside disk.old }
@@ -79,26 +79,26 @@ fn has_tail<D: Disk>(
     window.fill(disk, name, place, len)?;
     let tail = window.behind(place);
     if tail.len() < len {
-        return Ok(false);
+        return Ok(Err(NeedleFault::Truncated));
     }
-    Ok(head.check(version, sum, &tail[..len]).is_ok())
+    Ok(head.check(version, sum, &tail[..len]))
 }
 
-/// Whether the item of a head is whole, so many bytes from a place on; they are looked at in each case.
-fn is_sound<D: Disk>(
+/// What is said of the item of a head at a place, whose bytes are all looked at.
+fn judge<D: Disk>(
     disk: &mut D,
     name: &FileName,
     window: &mut Window,
     version: Version,
     place: u64,
     head: &Head,
-) -> Result<bool, Failed>
+) -> Result<Result<(), NeedleFault>, Failed>
     requires of { IfSome (D.files disk.old) (λ files. IsOf (content files name.now) window.old) }
     requires head { IfSome (D.files disk.old) (λ files. HasHead (content files name.now) place (Some head.now)) }
     requires there { IfSome (D.files disk.old) (λ files. place + padded version head.now.size ≤ length (content files name.now)) }
     requires within { place + padded version head.now.size ≤ 2 ^ 35 - 8 }
     ensures of { IfOk result (λ _. IfSome (D.files disk.old) (λ files. IsOf (content files name.now) window.new)) }
-    ensures judged { IfOk result (λ is. IfSome (D.files disk.old) (λ files. IsJudged version (content files name.now) place (padded version head.now.size) is)) }
+    ensures judged { IfOk result (λ verdict. IfSome (D.files disk.old) (λ files. IsJudged version (content files name.now) place (padded version head.now.size) (is_ok verdict))) }
     ensures looks { Looks D.Disk disk.old disk.new }
     ensures cause { HasCause (D.faults disk.old) (D.faults disk.new) result }
     ensures beside { D.beside disk.new ≡ D.beside disk.old }
@@ -109,9 +109,9 @@ fn is_sound<D: Disk>(
     let sum = sum_of(disk, name, window, start, len)?;
     if tail > ROOM as u64 {
         let _ = sum_of(disk, name, window, start + len, tail)?;
-        return Ok(false);
+        return Ok(Err(NeedleFault::SizeMismatch));
     }
-    let is_whole = has_tail(
+    let verdict = check_tail(
         disk,
         name,
         window,
@@ -121,7 +121,10 @@ fn is_sound<D: Disk>(
         start + len,
         tail as usize,
     )?;
-    Ok(is_whole && len <= MOST_DATA)
+    if len > MOST_DATA {
+        return Ok(Err(NeedleFault::SizeMismatch));
+    }
+    Ok(verdict)
 }
 
 /// What stands at a place of a file of so many bytes: an item, or `None`.
@@ -151,12 +154,12 @@ pub(crate) fn look<D: Disk>(
     if taken > len.min(LAST_END).saturating_sub(place) {
         return Ok(None);
     }
-    if !is_sound(disk, name, window, version, place, &head)? {
-        return Ok(None);
+    match judge(disk, name, window, version, place, &head)? {
+        Ok(()) => Ok(Some(Seen {
+            key: head.key,
+            size: head.size,
+            taken,
+        })),
+        Err(_) => Ok(None),
     }
-    Ok(Some(Seen {
-        key: head.key,
-        size: head.size,
-        taken,
-    }))
 }

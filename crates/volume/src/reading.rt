@@ -48,7 +48,7 @@ fn tells_of(text: &[u8], key: u64, size: u32) -> bool
 }
 
 /// That no whole item lies at a place.
-fn no_item(at: u64) -> VolumeFault
+pub(crate) fn no_item(at: u64) -> VolumeFault
     ensures { result ≡ VolumeFault.Damaged at 0 0 }
 {
     VolumeFault::Damaged {
