@@ -19,3 +19,4 @@ pub mod Cookies
 pub mod Deleted
 pub mod Living
 pub mod Fitting
+pub mod Copied

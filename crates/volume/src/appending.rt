@@ -24,7 +24,12 @@ pub(crate) struct Pieces<'a> {
 }
 
 /// Writes a piece behind a file's end.
-pub(crate) fn append_piece<D: Disk>(disk: &mut D, name: &FileName, at: u64, piece: &[u8]) -> Result<(), Failed>
+pub(crate) fn append_piece<D: Disk>(
+    disk: &mut D,
+    name: &FileName,
+    at: u64,
+    piece: &[u8],
+) -> Result<(), Failed>
     requires { IfSome (D.files disk.old) (EndsAt name.now at) }
     ensures done { OnOk result (BothTold (Appends name.now piece.now) (D.files disk.old) (D.files disk.new)) }
     ensures ends { OnOk result (IfSome (D.files disk.new) (EndsAt name.now (at + length piece.now))) }
