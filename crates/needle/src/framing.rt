@@ -1,8 +1,8 @@
-ghost use Rattle.std.specs.Prelude.{◌≡◌, ◌+◌, ◌-◌, ◌%◌, ◌++◌, replicate, IfOk, OnOk};
+ghost use Rattle.std.specs.Prelude.{◌≡◌, ◌+◌, ◌-◌, ◌%◌, ◌++◌, length, replicate, IfOk, OnOk};
 ghost use Rattle.needle.specs.Crc.{checksum};
 ghost use Rattle.needle.specs.Framing.{head_text, tail_text, Frames};
-ghost use Rattle.needle.specs.Item.{IsWithinLimits, item_text};
-ghost use Rattle.needle.specs.declared.item.Item.TheVariants.{Gone};
+ghost use Rattle.needle.specs.Item.{IsWithinLimits, content, item_text};
+ghost use Rattle.needle.specs.declared.item.Item.TheVariants.{Gone, Live};
 
 use crate::crc::crc32c;
 use crate::head::Head;
@@ -56,6 +56,14 @@ fn put_tail(
 }
 
 impl Needle {
+    /// How many bytes stand between the size and the checksum of its item. Takes no memory.
+    pub fn size(&self) -> u32
+        requires { IsWithinLimits self.now }
+        ensures { result ≡ length (content (Live self.now)) }
+    {
+        counted_len(self) as u32
+    }
+
     /// The item of the needle around its data, padded with zeros; `moment`, in nanoseconds since 1970, stands in
     /// it from version 3 on.
     pub fn framed(&self, alloc: Global, version: Version, moment: u64) -> Result<Framed, AllocError>

@@ -20,3 +20,4 @@ pub mod Deleted
 pub mod Living
 pub mod Fitting
 pub mod Copied
+pub mod Kept

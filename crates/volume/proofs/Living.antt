@@ -1,8 +1,8 @@
 -- The living items of a volume leave what all of them leave.
 use Rattle.std.proofs.Common.{◌≡◌, ℕ, ◌⊎◌, inl, inr, Bool, true, false, cond, nat_eq, not, List, [], ◌∷◌, ◌++◌, Option, Some, None, refl, sym, ap, subst, ◌∙◌, arith}
 use Rattle.std.specs.Cmp.{nat_cmp_total}
-use Rattle.std.specs.FinMap.{empty, get, get-empty, get-insert, get-remove, insert, remove, same_map, nat_cmp-IsAntisymmetric}
-use Rattle.std.specs.Ordering.{nat_cmp, eq_by_cmp}
+use Rattle.std.specs.FinMap.{empty, get, get-empty, get-insert, get-remove, insert, same_map, nat_cmp-IsAntisymmetric}
+use Rattle.std.specs.Ordering.{nat_cmp}
 use Rattle.std.proofs.lemmas.Bool.Decides.{nat_tests}
 use Rattle.needle.specs.declared.item.Item.{Item}
 use Rattle.needle.specs.declared.item.Item.TheVariants.{Live, Gone}

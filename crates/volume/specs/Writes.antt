@@ -77,7 +77,7 @@ pub record IsWritten (volume : Volume) (needle : Needle) (written : Written) : T
 abbrev pub AppendAnswers : Volume → Needle → Result Written VolumeFault → Type 0
 AppendAnswers volume needle (Ok written) = (volume.end + taken_by volume.block.version (Live needle) ≤ last_end) × IsWritten volume needle written
 AppendAnswers volume needle (Err (VolumeFull end)) = IsFull volume.end (taken_by volume.block.version (Live needle)) (VolumeFull end)
-AppendAnswers volume needle (Err Memory) = Unit {0}
+AppendAnswers volume needle (Err Memory) = volume.end + taken_by volume.block.version (Live needle) ≤ last_end
 AppendAnswers volume needle (Err DiskFault) = Unit {0}
 AppendAnswers volume needle (Err fault) = ⊥
 
@@ -99,6 +99,7 @@ abbrev pub WritesOver : Option ℕ → ℕ → Result Written VolumeFault → Ty
 WritesOver held cookie (Ok written) = MayReplace held cookie
 WritesOver held cookie (Err (WrongCookie other)) = IsHeldOtherwise held cookie (WrongCookie other)
 WritesOver held cookie (Err (VolumeFull end)) = MayReplace held cookie
+WritesOver held cookie (Err Memory) = MayReplace held cookie
 WritesOver held cookie (Err fault) = Unit {0}
 
 -- The same by the contents.

@@ -93,6 +93,7 @@ impl Volume {
         ensures holds { OnOk result (BothTold (HoldsMore self.old self.new (Gone cookie key) moment) (D.files disk.old) (D.files disk.new)) }
         ensures sound { OnOk result (self.new.broken ≡ false) }
         ensures leaves { IfErr result (Leaves self.old self.new (D.files disk.old) (D.files disk.new)) }
+        ensures kept { IfSome (D.files disk.new) (HoldsUnlessBroken self.new) }
         ensures behind { BothTold (ChangesBehind self.old.id self.old.end self.old.index_end) (D.files disk.old) (D.files disk.new) }
         ensures cause { IsCauseOf (D.faults disk.old) (D.faults disk.new) (IsErrOf result VolumeFault.DiskFault) }
         ensures beside { D.beside disk.new ≡ D.beside disk.old }

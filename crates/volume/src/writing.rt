@@ -120,13 +120,14 @@ impl Volume {
         ensures cause { IsCauseOf (D.faults disk.old) (D.faults disk.new) (IsErrOf result VolumeFault.DiskFault) }
         ensures beside { D.beside disk.new ≡ D.beside disk.old }
     {
+        let size = needle.size();
+        let taken = self.room_for(size)?;
         let framed = needle.framed(alloc, self.block.version, moment)?;
-        let taken = self.room_for(framed.size)?;
         self.index.reserve(1)?;
-        let entry = IndexEntry::at(self.end, needle.key, framed.size);
+        let entry = IndexEntry::at(self.end, needle.key, size);
         let written = Written {
             at: self.end,
-            size: framed.size,
+            size,
             checksum: framed.checksum,
         };
         let pieces = Pieces {
@@ -165,7 +166,7 @@ impl Volume {
     }
 
     /// Writes a needle behind the last item, and settles it. The refusals come in the order `Broken`, `ReadOnly`,
-    /// `EmptyData`, `TooLarge`, `WrongCookie`, `VolumeFull`, `DiskFault`, of which the last breaks the volume.
+    /// `EmptyData`, `TooLarge`, `WrongCookie`, `VolumeFull`, `Memory`, `DiskFault`, of which the last breaks the volume.
     pub fn write<D: Disk>(
         &mut self,
         alloc: Global,
@@ -183,6 +184,7 @@ impl Volume {
         ensures holds { OnOk result (BothTold (HoldsMore self.old self.new (Live needle.now) moment) (D.files disk.old) (D.files disk.new)) }
         ensures sound { OnOk result (self.new.broken ≡ false) }
         ensures leaves { IfErr result (Leaves self.old self.new (D.files disk.old) (D.files disk.new)) }
+        ensures kept { IfSome (D.files disk.new) (HoldsUnlessBroken self.new) }
         ensures behind { BothTold (ChangesBehind self.old.id self.old.end self.old.index_end) (D.files disk.old) (D.files disk.new) }
         ensures cause { IsCauseOf (D.faults disk.old) (D.faults disk.new) (IsErrOf result VolumeFault.DiskFault) }
         ensures beside { D.beside disk.new ≡ D.beside disk.old }

@@ -13,7 +13,7 @@ returns-clause-holds g c =
     let old = c.args.self.now in
     let needle = c.args.needle.now in
     let framed = c.in_ok-framed.framed in
-    let size = c.in_ok-framed.ensures.size in
+    let size = c.size-size.ensures in
     let entry_is : c.at-entry.result ≡ entry_for old.end (Live needle) = c.at-entry.ensures ∙ ap (λ (n : ℕ). entry_at old.end needle.key n) size in
     let taken_is : c.in_ok-taken.taken ≡ taken_by old.block.version (Live needle) = c.in_ok-taken.ensures.0 ∙ ap (padded old.block.version) size in
     told_holds old c.append.new.self (Live needle) c.args.moment _ (g.D.Disk.files c.args.disk.now) (g.D.Disk.files c.append.new.disk) c.requires.open.1
