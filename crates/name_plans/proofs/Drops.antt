@@ -21,19 +21,19 @@ after_drop top path names =
     get-retain_keys names (λ other. not (is_within top other)) path
     (λ other tied. ap (λ p. not (is_within top p)) (sym (path_cmp-IsAntisymmetric path other tied)))
 
-gone : (top path : List (List ℕ)) (names : Namespace) → is_within top path ≡ true → get (step (Drop top) names) path ≡ None
+pub gone : (top path : List (List ℕ)) (names : Namespace) → is_within top path ≡ true → get (step (Drop top) names) path ≡ None
 gone top path names within = after_drop top path names ∙ ap (λ b. cond (not b) (get names path) None) within
 
-stays : (top path : List (List ℕ)) (names : Namespace) → is_within top path ≡ false → get (step (Drop top) names) path ≡ get names path
+pub stays : (top path : List (List ℕ)) (names : Namespace) → is_within top path ≡ false → get (step (Drop top) names) path ≡ get names path
 stays top path names apart = after_drop top path names ∙ ap (λ b. cond (not b) (get names path) None) apart
 
 -- What is below a path within the top is within it.
-below_within : (top parent : List (List ℕ)) (name : List ℕ) → is_within top parent ≡ true → is_within top (parent ++ name ∷ []) ≡ true
+pub below_within : (top parent : List (List ℕ)) (name : List ℕ) → is_within top parent ≡ true → is_within top (parent ++ name ∷ []) ≡ true
 below_within top parent name within =
     let rest = drop (length top) parent in
     subst (λ p. is_within top p ≡ true) (sym (ap (λ p. p ++ name ∷ []) (split_within top parent within) ∙ append_assoc top rest (name ∷ []))) (join_within top (rest ++ name ∷ []))
 
-directory_stays : (top parent : List (List ℕ)) (names : Namespace) → is_within top parent ≡ false → IsDirectoryIn names parent → IsDirectoryIn (step (Drop top) names) parent
+pub directory_stays : (top parent : List (List ℕ)) (names : Namespace) → is_within top parent ≡ false → IsDirectoryIn names parent → IsDirectoryIn (step (Drop top) names) parent
 directory_stays top [] names apart is = tt
 directory_stays top (part ∷ parts) names apart is = subst (λ o. IsSomeAnd o (λ entry. entry.kind ≡ Directory)) (sym (stays top (part ∷ parts) names apart)) is
 

@@ -4,3 +4,4 @@ pub mod Within
 pub mod MovedTexts
 pub mod PageLoop
 pub mod Drops
+pub mod Ways

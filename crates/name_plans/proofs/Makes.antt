@@ -6,12 +6,15 @@ use Rattle.entry.specs.Entry.{IsValid}
 use Rattle.name_core.specs.declared.change.Change.{Change}
 use Rattle.name_core.specs.declared.change.Change.TheVariants.{Put, Drop}
 use Rattle.name_core.specs.Namespace.{path_of}
-use Rattle.name_core.specs.Plan.{IsNewDirectory, MakesDirectories}
+use Rattle.name_core.specs.Plan.{new_directory, IsNewDirectory, MakesDirectories}
 use Rattle.name_core.specs.RecordText.{HasValidEntry}
 use Rattle.name_plans.specs.Makeable.{AreMakeable}
 
+pub new_directory_valid : (time : ℕ) → IsValid (new_directory time)
+new_directory_valid time = record { bare = λ _. refl; chunks = λ k d below. absurd (omega arith); few = omega arith; file_size = omega arith; mime = omega arith }
+
 new_is_valid : (time : ℕ) (change : Change) → IsNewDirectory time change → HasValidEntry change
-new_is_valid time (Put path entry) is = subst IsValid (sym is.2) (record { bare = λ _. refl; chunks = λ k d below. absurd (omega arith); few = omega arith; file_size = omega arith; mime = omega arith })
+new_is_valid time (Put path entry) is = subst IsValid (sym is.2) (new_directory_valid time)
 new_is_valid time (Drop path) is = absurd is
 
 new_is_rootless : (time : ℕ) (change : Change) → IsNewDirectory time change → path_of change ≢ []
@@ -48,3 +51,6 @@ pub move_makeable : (time : ℕ) (parents moved made : List Change) (from to : L
 move_makeable time parents moved made from to entry makes from_filled to_filled valid had is =
     subst AreMakeable (sym is) (makeable-append parents (Drop from ∷ Put to entry ∷ moved) (directories_makeable time parents makes)
     (makeable-append (Drop from ∷ []) (Put to entry ∷ moved) (one_makeable (Drop from) from_filled tt) (makeable-append (Put to entry ∷ []) moved (one_makeable (Put to entry) to_filled valid) had)))
+
+pub none_makeable : AreMakeable []
+none_makeable = record { rootless = All-nil (λ change. path_of change ≢ []); valid = All-nil HasValidEntry }

@@ -10,7 +10,7 @@ use Rattle.std.specs.Cmp.{tied_itself}
 use Rattle.std.specs.Cmp.Lexicographic.{slice_cmp, texts_ties}
 use Rattle.std.proofs.lemmas.Bool.{ltb-true, cases_Bool}
 use Rattle.std.proofs.lemmas.List.{map-append, take-append-drop}
-use Rattle.std.proofs.lemmas.List.Elements.{All-head, All-tail, All-nil, All-map, All-weaker, filter_passes}
+use Rattle.std.proofs.lemmas.List.Elements.{All-head, All-tail, All-map, All-weaker, filter_passes}
 use Rattle.std.proofs.lemmas.List.Folds.{list_any-append}
 use Rattle.weed_base.specs.PathOrder.{path_cmp, path_cmp_total}
 use Rattle.entry.specs.declared.entry.Entry.{Entry}
@@ -319,9 +319,6 @@ last_of_more (x ∷ paths) path other = last_of_more paths path (Some x)
 pub last_one : (done : List Named) (item : Named) → last_path (done ++ item ∷ []) ≡ Some item.0
 last_one done item =
     ap (last_or None) (map-append (λ (i : Named). i.0) done (item ∷ [])) ∙ last_of_more (map (λ (i : Named). i.0) done) item.0 None
-
-pub none_makeable : AreMakeable []
-none_makeable = record { rootless = All-nil (λ change. path_of change ≢ []); valid = All-nil HasValidEntry }
 
 unless_told : (told : Option Namespace) → IfSome told (λ names. Unit {0})
 unless_told None = tt

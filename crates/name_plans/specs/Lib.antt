@@ -5,3 +5,4 @@ pub mod Moving
 pub mod Paging
 pub mod Commands
 pub mod Makeable
+pub mod Placing

@@ -6,11 +6,14 @@ mod laws;
 mod moved;
 mod moving;
 mod parents;
+mod placing;
 mod removing;
+mod way;
 mod writing;
 
 pub use command::{Command, CommandChunks, Piece};
 pub use laws::removals_keep_names_well_formed;
 pub use moving::plan_move;
+pub use placing::plan_place;
 pub use removing::plan_remove;
 pub use writing::{Writing, plan_write};

@@ -104,7 +104,7 @@ fn written_file(
     Ok(made_file(alloc, old, writing, time)?)
 }
 
-fn is_directory_there(there: &Option<Entry>) -> bool
+pub fn is_directory_there(there: &Option<Entry>) -> bool
     ensures { result ≡ is_directory there.now }
 {
     match there {

@@ -6,7 +6,8 @@ use Rattle.name_core.specs.Pages.{page_of, is_below_past}
 use Rattle.name_plans.specs.Commands.{below}
 use Rattle.name_plans.specs.Moving.{puts_moved}
 use Rattle.name_plans.specs.Makeable.{AreMakeable}
-use Rattle.name_plans.proofs.PageLoop.{front_begins, front_moves, front_ends, page_fails, page_makeable, none_makeable}
+use Rattle.name_plans.proofs.Makes.{none_makeable}
+use Rattle.name_plans.proofs.PageLoop.{front_begins, front_moves, front_ends, page_fails, page_makeable}
 use Rattle.name_plans.proofs.moving.moved_below.Goals as goal
 
 pub loop-after-init : goal.loop-after-init
