@@ -6,3 +6,4 @@ pub mod Paging
 pub mod Commands
 pub mod Makeable
 pub mod Placing
+pub mod Planning
