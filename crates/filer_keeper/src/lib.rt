@@ -2,7 +2,5 @@
 #![tactic(auto)]
 
 mod keeper;
-mod order;
-mod tree;
 
 pub use keeper::Keeper;

@@ -4,14 +4,14 @@ use Rattle.std.specs.FinMap.{is_sorted}
 use Rattle.weed_base.specs.PathOrder.{path_cmp}
 use Rattle.name_core.specs.Namespace.{is_within}
 use Rattle.name_core.specs.Pages.{Named}
-use Rattle.filer_keeper.specs.declared.tree.Node.{Node}
-use Rattle.filer_keeper.specs.declared.tree.Tree.{Tree}
-use Rattle.filer_keeper.specs.declared.tree.Tree.TheVariants.{Empty, Fork'}
+use Rattle.mem_keeper.specs.declared.tree.Node.{Node}
+use Rattle.mem_keeper.specs.declared.tree.Tree.{Tree}
+use Rattle.mem_keeper.specs.declared.tree.Tree.TheVariants.{Empty, Fork'}
 
 -- The paths with their entries, from the left to the right.
 abbrev pub items : Tree → List Named
 items Empty = []
-items (Fork' p left rank path entry right) = items left ++ (path, entry) ∷ items right
+items (Fork' p left height path entry right) = items left ++ (path, entry) ∷ items right
 
 -- The paths strictly rise.
 abbrev pub IsSearchTree : Tree → Type 0

@@ -9,9 +9,9 @@ use Rattle.std.proofs.lemmas.List.Elements.{filter-append}
 use Rattle.weed_base.specs.PathOrder.{path_cmp, path_cmp_total, path_cmp-IsAntisymmetric}
 use Rattle.name_core.specs.Namespace.{is_within}
 use Rattle.name_core.specs.Pages.{Named}
-use Rattle.filer_keeper.specs.Items.{without}
-use Rattle.filer_keeper.proofs.PutLemmas.{front_so, back_so, is_less, below_all-at}
-use Rattle.filer_keeper.proofs.WithinLemmas.{not_before, between}
+use Rattle.mem_keeper.specs.Items.{without}
+use Rattle.mem_keeper.proofs.PutLemmas.{front_so, back_so, is_less, below_all-at}
+use Rattle.mem_keeper.proofs.WithinLemmas.{not_before, between}
 
 abbrev Rises : List Named → Type 0
 Rises es = is_sorted path_cmp es ≡ true

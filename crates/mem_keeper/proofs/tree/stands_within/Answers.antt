@@ -1,6 +1,6 @@
 use Rattle.std.proofs.Common.{true, cond, ap, sym, ◌∙◌}
-use Rattle.filer_keeper.proofs.WithinLemmas.{within_is}
-use Rattle.filer_keeper.proofs.tree.stands_within.Goals as goal
+use Rattle.mem_keeper.proofs.WithinLemmas.{within_is}
+use Rattle.mem_keeper.proofs.tree.stands_within.Goals as goal
 
 pub returns-then-is_top : goal.returns-then-is_top
 returns-then-is_top c =

@@ -5,7 +5,7 @@ use Rattle.std.specs.FinMap.{find, put, is_sorted}
 use Rattle.weed_base.specs.PathOrder.{path_cmp, path_cmp_total, path_cmp-IsAntisymmetric}
 use Rattle.entry.specs.declared.entry.Entry.{Entry}
 use Rattle.name_core.specs.Pages.{Named}
-use Rattle.filer_keeper.proofs.PutLemmas.{sorted-left, sorted-right, put-left, put-at, put-right, find-left, find-at, find-right}
+use Rattle.mem_keeper.proofs.PutLemmas.{sorted-left, sorted-right, put-left, put-at, put-right, find-left, find-at, find-right}
 
 abbrev Rises : List Named → Type 0
 Rises es = is_sorted path_cmp es ≡ true

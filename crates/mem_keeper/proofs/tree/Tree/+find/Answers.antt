@@ -1,9 +1,9 @@
 use Rattle.std.proofs.Common.{◌≡◌, sym, ap, ◌∙◌, subst, Some}
 use Rattle.std.specs.Prelude.{IfOk}
 use Rattle.weed_base.specs.PathOrder.{path_cmp}
-use Rattle.filer_keeper.specs.Items.{items, node_items}
-use Rattle.filer_keeper.proofs.TreeLemmas.{left_rises, right_rises, found_left, found_at, found_right}
-use Rattle.filer_keeper.proofs.tree.Tree.+find.Goals as goal
+use Rattle.mem_keeper.specs.Items.{items, node_items}
+use Rattle.mem_keeper.proofs.TreeLemmas.{left_rises, right_rises, found_left, found_at, found_right}
+use Rattle.mem_keeper.proofs.tree.Tree.+find.Goals as goal
 
 pub returns-in-Less : goal.returns-in-Less
 returns-in-Less t c rises =

@@ -10,7 +10,7 @@ use Rattle.weed_base.specs.Path.{IsBelow}
 use Rattle.weed_base.specs.PathOrder.{path_cmp, same_path, same_path-exact}
 use Rattle.weed_base.proofs.PathOrderLemmas.{same_path-refl}
 use Rattle.name_core.specs.Namespace.{is_within}
-use Rattle.filer_keeper.proofs.PutLemmas.{front_so, back_so, both_so}
+use Rattle.mem_keeper.proofs.PutLemmas.{front_so, back_so, both_so}
 
 -- A path is within a top where the top is its front.
 within_front : (top path : List (List ℕ)) → is_within top path ≡ same_path top (take (length top) path)

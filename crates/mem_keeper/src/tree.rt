@@ -2,7 +2,7 @@ ghost use Rattle.std.specs.Prelude.{◌≡◌, ◌++◌, ◌∷◌, [], IfOk};
 ghost use Rattle.std.specs.FinMap.{find, put};
 ghost use Rattle.weed_base.specs.PathOrder.{path_cmp};
 ghost use Rattle.entry.specs.declared.entry.Entry.{Entry};
-ghost use Rattle.filer_keeper.specs.Items.{IsSearchTree, items, without};
+ghost use Rattle.mem_keeper.specs.Items.{IsSearchTree, items, without};
 ghost use Rattle.name_core.specs.Namespace.{is_within};
 
 use crate::order::order;
@@ -12,8 +12,7 @@ use std::cmp::Ordering;
 use std::mem;
 use weed_base::Path;
 
-/// A search tree by paths, where no node has a higher rank than the one above it. With ranks as of dice it is
-/// about as deep as a balanced one.
+/// A search tree by paths. The heights of the two trees below a node differ by 1 at most.
 #[derive(Debug, Drop)]
 #[cycle(tree)]
 pub enum Tree {
@@ -25,7 +24,7 @@ pub enum Tree {
 #[cycle(tree)]
 pub struct Node {
     pub left: Tree,
-    pub rank: u64,
+    pub height: u8,
     pub path: Path,
     pub entry: Entry,
     pub right: Tree,
@@ -55,55 +54,30 @@ impl Tree {
             Tree::Fork(mut node) => match order(at, &node.path) {
                 Ordering::Less => {
                     let left = mem::replace(&mut node.left, Tree::Empty);
+                    let right = mem::replace(&mut node.right, Tree::Empty);
                     let (before, behind) = left.split(at);
-                    node.left = behind;
-                    (before, Tree::Fork(node))
+                    (before, behind.join_at(node, right))
                 }
                 Ordering::Equal => {
                     let Node { left, right, .. } = Box::into_inner(node);
                     (left, right)
                 }
                 Ordering::Greater => {
+                    let left = mem::replace(&mut node.left, Tree::Empty);
                     let right = mem::replace(&mut node.right, Tree::Empty);
                     let (before, behind) = right.split(at);
-                    node.right = before;
-                    (Tree::Fork(node), behind)
-                }
-            },
-        }
-    }
-
-    /// What two trees hold, one behind the other. Takes no memory.
-    pub fn join(self, behind: Tree) -> Tree
-        ensures { items result ≡ items self ++ items behind }
-    {
-        match self {
-            Tree::Empty => behind,
-            Tree::Fork(mut first) => match behind {
-                Tree::Empty => Tree::Fork(first),
-                Tree::Fork(mut second) => {
-                    if first.rank < second.rank {
-                        let left = mem::replace(&mut second.left, Tree::Empty);
-                        second.left = Tree::Fork(first).join(left);
-                        Tree::Fork(second)
-                    } else {
-                        let right = mem::replace(&mut first.right, Tree::Empty);
-                        first.right = right.join(Tree::Fork(second));
-                        Tree::Fork(first)
-                    }
+                    (left.join_at(node, before), behind)
                 }
             },
         }
     }
 
     /// The tree with a node's entry at its path. Takes no memory.
-    pub fn put(self, mut node: Box<Node>) -> Tree
+    pub fn put(self, node: Box<Node>) -> Tree
         ensures { IsSearchTree self → items result ≡ put path_cmp node.value.path node.value.entry (items self) }
     {
         let (before, behind) = self.split(&node.path);
-        node.left = Tree::Empty;
-        node.right = Tree::Empty;
-        before.join(Tree::Fork(node)).join(behind)
+        before.join_at(node, behind)
     }
 
     /// The tree without what stands at a path and below it, in time in proportion to that and to the depth. Takes
@@ -121,14 +95,14 @@ impl Tree {
                 match order(top, &node.path) {
                     Ordering::Less => {
                         let left = mem::replace(&mut node.left, Tree::Empty);
-                        node.left = left.without(top);
-                        Tree::Fork(node)
+                        let right = mem::replace(&mut node.right, Tree::Empty);
+                        left.without(top).join_at(node, right)
                     }
                     Ordering::Equal => unreachable!(),
                     Ordering::Greater => {
+                        let left = mem::replace(&mut node.left, Tree::Empty);
                         let right = mem::replace(&mut node.right, Tree::Empty);
-                        node.right = right.without(top);
-                        Tree::Fork(node)
+                        left.join_at(node, right.without(top))
                     }
                 }
             }

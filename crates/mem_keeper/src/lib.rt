@@ -1,0 +1,6 @@
+//! A keeper of a namespace in memory.
+#![tactic(auto)]
+
+mod balance;
+mod order;
+mod tree;
