@@ -1,5 +1,6 @@
-pub mod PutLemmas
 pub mod OrderLemmas
+pub mod PutLemmas
+pub mod SearchLemmas
 pub mod TreeLemmas
 pub mod WithinLemmas
 pub mod WithoutLemmas

@@ -5,10 +5,8 @@ use Rattle.std.specs.FinMap.{find, put, is_sorted}
 use Rattle.weed_base.specs.PathOrder.{path_cmp, path_cmp_total, path_cmp-IsAntisymmetric}
 use Rattle.entry.specs.declared.entry.Entry.{Entry}
 use Rattle.name_core.specs.Pages.{Named}
+use Rattle.mem_keeper.specs.Items.{Rises}
 use Rattle.mem_keeper.proofs.PutLemmas.{sorted-left, sorted-right, put-left, put-at, put-right, find-left, find-at, find-right}
-
-abbrev Rises : List Named → Type 0
-Rises es = is_sorted path_cmp es ≡ true
 
 pub left_rises : (es l : List Named) (e : Named) (r : List Named) → es ≡ l ++ e ∷ r → Rises es → Rises l
 left_rises es l e r cut rises = sorted-left path_cmp path_cmp_total path_cmp-IsAntisymmetric l (e ∷ r) (subst Rises cut rises)

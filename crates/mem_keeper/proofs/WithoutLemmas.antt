@@ -9,12 +9,9 @@ use Rattle.std.proofs.lemmas.List.Elements.{filter-append}
 use Rattle.weed_base.specs.PathOrder.{path_cmp, path_cmp_total, path_cmp-IsAntisymmetric}
 use Rattle.name_core.specs.Namespace.{is_within}
 use Rattle.name_core.specs.Pages.{Named}
-use Rattle.mem_keeper.specs.Items.{without}
+use Rattle.mem_keeper.specs.Items.{Rises, without}
 use Rattle.mem_keeper.proofs.PutLemmas.{front_so, back_so, is_less, below_all-at}
 use Rattle.mem_keeper.proofs.WithinLemmas.{not_before, between}
-
-abbrev Rises : List Named → Type 0
-Rises es = is_sorted path_cmp es ≡ true
 
 kept : (top : List (List ℕ)) (e : Named) (es : List Named) → is_within top e.0 ≡ false → without top (e ∷ es) ≡ e ∷ without top es
 kept top e es apart = ap (λ b. cond (not b) (e ∷ without top es) (without top es)) apart

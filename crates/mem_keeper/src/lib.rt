@@ -3,4 +3,6 @@
 
 mod balance;
 mod order;
+mod search;
 mod tree;
+mod wanted;

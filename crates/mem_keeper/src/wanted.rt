@@ -1,0 +1,31 @@
+ghost use Rattle.std.specs.Prelude.{ℕ, Bool, List, IfOk, IsTrue};
+ghost use Rattle.mem_keeper.specs.Places.{StandsAt, IsNoneBetween};
+
+use std::alloc::{AllocError, Global};
+use weed_base::Path;
+
+/// Where a path stands beside those that are wanted, in the order of paths.
+pub enum Place {
+    /// It isn't wanted, nor is any before it.
+    Ahead,
+    /// It is wanted.
+    Within,
+    /// It isn't wanted.
+    Apart,
+    /// It isn't wanted, nor is any behind it.
+    Behind,
+}
+
+/// What tells which paths are wanted.
+pub trait Wanted {
+    /// Whether a path is.
+    ghost belongs: { Self → List (List ℕ) → Bool };
+
+    /// Where a path stands beside these. Takes no memory.
+    fn place(&self, path: &Path) -> Place
+        ensures { StandsAt (belongs self.now) path.now result };
+
+    /// Whether it is known that none is wanted of the paths between two.
+    fn skips(&self, alloc: Global, least: &Path, most: &Path) -> Result<bool, AllocError>
+        ensures { IfOk result (λ skips. IsTrue skips → IsNoneBetween (belongs self.now) least.now most.now) };
+}
