@@ -1,4 +1,6 @@
+pub mod NameLemmas
 pub mod OrderLemmas
+pub mod PlaceLemmas
 pub mod PutLemmas
 pub mod SearchLemmas
 pub mod TreeLemmas

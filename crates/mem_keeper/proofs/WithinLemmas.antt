@@ -16,14 +16,14 @@ use Rattle.mem_keeper.proofs.PutLemmas.{front_so, back_so, both_so}
 within_front : (top path : List (List ℕ)) → is_within top path ≡ same_path top (take (length top) path)
 within_front top path = lists_ties (slice_cmp nat_cmp) texts_ties top (take (length top) path)
 
-front_is_within : (top path : List (List ℕ)) → take (length top) path ≡ top → is_within top path ≡ true
+pub front_is_within : (top path : List (List ℕ)) → take (length top) path ≡ top → is_within top path ≡ true
 front_is_within top path front = within_front top path ∙ ap (same_path top) front ∙ same_path-refl top
 
-front_of_within : (top path : List (List ℕ)) → is_within top path ≡ true → top ≡ take (length top) path
+pub front_of_within : (top path : List (List ℕ)) → is_within top path ≡ true → top ≡ take (length top) path
 front_of_within top path within = same_path-exact top (take (length top) path) (sym (within_front top path) ∙ within)
 
 -- What is behind a front, if anything
-is_or_below : (top path rest : List (List ℕ)) → path ≡ top ++ rest → path ≢ top → ¬ IsBelow path top → ⊥
+pub is_or_below : (top path rest : List (List ℕ)) → path ≡ top ++ rest → path ≢ top → ¬ IsBelow path top → ⊥
 is_or_below top path [] split other apart = other (split ∙ append-nil top)
 is_or_below top path (part ∷ rest) split other apart = apart (part, rest, split)
 

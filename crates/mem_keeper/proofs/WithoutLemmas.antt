@@ -19,7 +19,7 @@ kept top e es apart = ap (λ b. cond (not b) (e ∷ without top es) (without top
 pub left_out : (top : List (List ℕ)) (e : Named) (es : List Named) → is_within top e.0 ≡ true → without top (e ∷ es) ≡ without top es
 left_out top e es within = ap (λ b. cond (not b) (e ∷ without top es) (without top es)) within
 
-before_is_apart : (top x : List (List ℕ)) → path_cmp x top ≡ Less → is_within top x ≡ false
+pub before_is_apart : (top x : List (List ℕ)) → path_cmp x top ≡ Less → is_within top x ≡ false
 before_is_apart top x before =
     elim (cases_Bool (is_within top x)) [ inl within ↦ absurd (not_before top x within before) | inr apart ↦ apart ]
 

@@ -2,6 +2,9 @@
 #![tactic(auto)]
 
 mod balance;
+mod below;
+mod children;
+mod names;
 mod order;
 mod search;
 mod tree;

@@ -7,6 +7,7 @@ use crate::wanted::{Place, Wanted};
 use std::alloc::{AllocError, Global};
 
 /// A search for the first nodes that are wanted, at most so many.
+#[derive(Drop)]
 pub struct Search<'w, W: Wanted> {
     pub alloc: Global,
     pub wanted: &'w W,
@@ -55,7 +56,7 @@ impl<'w, W: Wanted> Search<'w, W> {
                 if self.skips(least, most)? {
                     return Ok(());
                 }
-                match self.wanted.place(&node.path) {
+                match self.wanted.place(self.alloc, &node.path)? {
                     Place::Ahead => self.gather(&node.right, Some(node), most, page),
                     Place::Within => {
                         self.gather(&node.left, least, Some(node), page)?;

@@ -21,9 +21,9 @@ pub trait Wanted {
     /// Whether a path is.
     ghost belongs: { Self → List (List ℕ) → Bool };
 
-    /// Where a path stands beside these. Takes no memory.
-    fn place(&self, path: &Path) -> Place
-        ensures { StandsAt (belongs self.now) path.now result };
+    /// Where a path stands beside these.
+    fn place(&self, alloc: Global, path: &Path) -> Result<Place, AllocError>
+        ensures { IfOk result (λ place. StandsAt (belongs self.now) path.now place) };
 
     /// Whether it is known that none is wanted of the paths between two.
     fn skips(&self, alloc: Global, least: &Path, most: &Path) -> Result<bool, AllocError>
