@@ -1,3 +1,4 @@
+pub mod CommitLemmas
 pub mod NameLemmas
 pub mod OrderLemmas
 pub mod PlaceLemmas

@@ -1,20 +1,22 @@
 -- What is done to a search tree is done to its names.
-use Rattle.std.proofs.Common.{◌≡◌, ◌≢◌, ℕ, ◌≤◌, min, Bool, true, false, cond, not, List, [], ◌∷◌, ◌++◌, length, take, map, filter, Option, None, Some, All, refl, sym, ap, ◌∙◌, subst, arith, inl, inr, IsTrue, T, Equal, IfSome, IsNone, Result, Ok, Err, IfOk}
-use Rattle.std.proofs.lemmas.Bool.{cases_Bool}
+use Rattle.std.proofs.Common.{◌≡◌, ◌≢◌, ℕ, ◌≤◌, min, Bool, true, false, cond, not, List, [], ◌∷◌, ◌++◌, length, take, filter, Option, None, Some, All, refl, sym, ap, ◌∙◌, subst, arith, append_assoc, drop, inl, inr, IsTrue, T, Equal, IfSome, IsNone, Result, Ok, Err, IfOk}
 use Rattle.std.proofs.lemmas.List.{append-nil, length-take, take-append-drop}
-use Rattle.std.proofs.lemmas.List.Elements.{All-filter, All-take, filter_passes, All-head, All-tail, All-cons, All-nil}
-use Rattle.std.specs.FinMap.{entries, entries_sorted, entries-from_sorted, entries-insert, same_entries_map, empty, find, put, get, insert, retain_keys, from_sorted, get-empty, get-from_sorted, get-insert, get-retain_keys, same_map, is_sorted}
+use Rattle.std.proofs.lemmas.List.Elements.{All-filter, All-take, filter_passes, All-cons, All-nil}
+use Rattle.std.specs.Cmp.{tied_itself}
+use Rattle.std.specs.FinMap.{entries-from_sorted, entries-insert, same_entries_map, empty, find, put, get, insert, get-empty, get-from_sorted, get-retain_keys, same_map}
 use Rattle.std.specs.FinMap.Entries.{is_sorted-put, is_sorted-where_key, find-where_key}
 use Rattle.weed_base.specs.Path.{IsPath}
 use Rattle.weed_base.specs.PathOrder.{path_cmp, path_cmp_total, path_cmp-IsAntisymmetric}
 use Rattle.entry.specs.declared.entry.Entry.{Entry}
 use Rattle.entry.specs.Entry.{IsValid}
-use Rattle.name_core.specs.declared.change.Change.TheVariants.{Put, Drop}
+use Rattle.name_core.specs.declared.change.Change.TheVariants.{Drop}
 use Rattle.name_core.specs.Namespace.{Namespace, step, is_within}
 use Rattle.name_core.specs.Pages.{Named, IsNamed, AreNamed, IsPage, page_of}
 use Rattle.name_core.proofs.Paths.{get-insert_same, get-insert_other, cases_path}
 use Rattle.mem_keeper.specs.Items.{Rises, without}
 use Rattle.mem_keeper.specs.Names.{names_of}
+use Rattle.mem_keeper.proofs.TreeLemmas.{found_at}
+use Rattle.mem_keeper.proofs.SearchLemmas.{before_back}
 
 same : (m n : Namespace) → ((path : List (List ℕ)) → get m path ≡ get n path) → m ≡ n
 same m n alike = same_map path_cmp_total path_cmp-IsAntisymmetric m n alike
@@ -111,3 +113,24 @@ no_bounds es rises = subst Rises (sym (append-nil es)) rises
 pub answered : {A E : Type 0} {P Q : A → Type 0} (result : Result A E) → ((value : A) → P value → Q value) → IfOk result P → IfOk result Q
 answered (Ok value) so clause = so value clause
 answered (Err error) so clause = clause
+
+-- Each item that is kept stands at a path other than the root, and is valid.
+all_named : (es l r : List Named) → es ≡ l ++ r → Rises es → AreNamed (names_of es) → All IsNamed r
+all_named es l [] cut rises had = All-nil IsNamed
+all_named es l (e ∷ r) cut rises had =
+    All-cons IsNamed e r (had.each e.0 e.1 (looked_up es e.0 rises ∙ sym (found_at e.0 es l e r cut rises (sym (tied_itself path_cmp_total e.0)))))
+    (all_named es (l ++ e ∷ []) r (cut ∙ sym (append_assoc l (e ∷ []) r)) rises had)
+
+-- The first items that are wanted are a page.
+pub page_is : (es : List Named) (room : ℕ) (belongs : List (List ℕ) → Bool) → Rises es → AreNamed (names_of es) → IsPage room belongs (take room (filter (λ item. belongs item.0) es))
+page_is es room belongs rises had =
+    let some = filter (λ item. belongs item.0) es in
+    let named : All IsNamed some = All-filter (λ item. belongs item.0) IsNamed es (all_named es [] es refl rises had) in
+    let passed : All (λ item. belongs item.0 ≡ true) some = filter_passes (λ item. belongs item.0) es in record {
+      few = omega (arith, length-take room some, least_of room (length some));
+      rising = before_back (take room some) (drop room some) (subst Rises (sym (take-append-drop room some)) (untold _ (is_sorted-where_key path_cmp belongs es (told rises))));
+      each = All-take (λ item. IsNamed item × IsTrue (belongs item.0)) room some (λ i d h. (named i d h, passed i d h));
+    }
+  where
+    least_of : (a b : ℕ) → min a b ≤ a
+    least_of a b = omega arith

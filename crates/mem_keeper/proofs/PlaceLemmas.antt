@@ -1,25 +1,28 @@
 -- Where a path stands beside those below a top that are past another.
-use Rattle.std.proofs.Common.{◌≡◌, ◌≢◌, ℕ, ◌+◌, ◌<◌, ◌≤◌, suc, Bool, true, false, ◌&&◌, List, [], ◌∷◌, ◌++◌, length, take, drop, Option, Some, None, Ordering, refl, sym, ap, ◌∙◌, subst, append_assoc, arith, inl, inr, IsTrue}
+use Rattle.std.proofs.Common.{◌≡◌, ◌≢◌, ℕ, ◌+◌, ◌<◌, suc, Bool, true, false, ◌&&◌, List, [], ◌∷◌, ◌++◌, length, take, drop, Option, Some, None, Ordering, refl, sym, ap, ◌∙◌, subst, append_assoc, arith, map, IsTrue}
 use Rattle.std.specs.Prelude.{nat_lt, ◌==◌}
-use Rattle.std.proofs.lemmas.List.{append-nil, take-append-drop, length-append, take_all}
-use Rattle.std.proofs.Math.Seq.{take-length, take-append_seam}
+use Rattle.std.proofs.lemmas.List.{take-append-drop, length-append, take_all}
+use Rattle.std.proofs.Math.Seq.{take-append_seam}
 use Rattle.std.specs.declared.cmp.Ordering.TheVariants.{Less, Equal, Greater}
 use Rattle.std.specs.Ordering.{is_lt, nat_cmp, ordering_then, ordering_reverse}
 use Rattle.std.specs.Option.{option_map}
 use Rattle.std.specs.List.{last_or}
 use Rattle.std.specs.Cmp.{tied_itself}
 use Rattle.std.specs.Cmp.Lexicographic.{slice_cmp, nat_list_cmp_total}
-use Rattle.std.proofs.lemmas.Bool.{cases_Bool}
 use Rattle.std.proofs.lemmas.Bool.Decides.{nat_tests}
 use Rattle.weed_base.specs.Path.{IsBelow}
 use Rattle.weed_base.proofs.PathLemmas.{last_or-append}
 use Rattle.weed_base.specs.PathOrder.{path_cmp, path_cmp_total, path_cmp-IsAntisymmetric}
 use Rattle.name_core.specs.Namespace.{is_within}
-use Rattle.name_core.specs.Pages.{is_past, child_path, is_child_past, is_below_past}
-use Rattle.mem_keeper.specs.declared.wanted.Place.TheVariants.{Ahead, Within, Apart, Behind}
+use Rattle.std.specs.List.{All}
+use Rattle.std.specs.Option.{unwrap_or}
+use Rattle.std.proofs.lemmas.List.Elements.{All-head, All-tail}
+use Rattle.name_core.specs.Pages.{Named, IsNamed, is_past, child_path, is_child_past, in_directory}
+use Rattle.mem_keeper.specs.Names.{child_of}
+use Rattle.mem_keeper.specs.declared.wanted.Place.TheVariants.{Ahead, Behind}
 use Rattle.mem_keeper.specs.Places.{StandsAt, IsNoneBetween}
 use Rattle.mem_keeper.proofs.PutLemmas.{front_so, back_so, both_so, is_less}
-use Rattle.mem_keeper.proofs.WithinLemmas.{front_is_within, front_of_within, is_or_below, not_before, between, within_itself}
+use Rattle.mem_keeper.proofs.WithinLemmas.{front_is_within, front_of_within, is_or_below, not_before, between}
 use Rattle.mem_keeper.proofs.WithoutLemmas.{before_is_apart, turned_less}
 
 not_so : (b : Bool) → (b ≡ true → ⊥) → b ≡ false
@@ -140,7 +143,8 @@ last_of_child dir part none = last_or-append dir part none
 pub child_name : (dir path child : List (List ℕ)) (n : ℕ) (name : Option (List ℕ)) → IsBelow path dir → n ≡ length dir + 1 → child ≡ take n path
     → name ≡ last_or None child → (rest : List (List ℕ)) × (part : List ℕ) × (name ≡ Some part) × (path ≡ dir ++ part ∷ rest)
 child_name dir path child n name below is front last = (
-  below.1, below.0,
+  below.1,
+  below.0,
   last ∙ ap (last_or None) (front ∙ ap (take n) below.2 ∙ front_of_child dir below.0 below.1 n is) ∙ last_of_child dir below.0 None,
   below.2,
 )
@@ -179,8 +183,8 @@ none_in_child dir least most child n after below is front under other past befor
     let behind : path_cmp child other ≡ Less = from_front child least other at_least past in
     let within : is_within child other ≡ true = between child other most (below_is_within child most under) behind before in
     not_so _ (λ so.
-        let short : length other ≡ length dir + 1 = eq_so _ _ (front_so _ _ (back_so _ _ so)) in
-        not_itself child (subst (λ p. path_cmp child p ≡ Less) (whole child other within (short ∙ sym (ap length there ∙ length-append dir (below.0 ∷ [])))) behind))
+    let short : length other ≡ length dir + 1 = eq_so _ _ (front_so _ _ (back_so _ _ so)) in
+    not_itself child (subst (λ p. path_cmp child p ≡ Less) (whole child other within (short ∙ sym (ap length there ∙ length-append dir (below.0 ∷ [])))) behind))
   where
     from_front : (c l o : List (List ℕ)) → is_within c l ≡ true → path_cmp l o ≡ Less → path_cmp c o ≡ Less
     from_front c l o within past = elim (path_cmp l c) as (λ r. path_cmp l c ≡ r → path_cmp c o ≡ Less) [
@@ -188,5 +192,23 @@ none_in_child dir least most child n after below is front under other past befor
       | Equal ↦ λ e. subst (λ p. path_cmp p o ≡ Less) (path_cmp-IsAntisymmetric l c e) past
       | Greater ↦ λ e. path_cmp_total.trans c l o (turned_less c l e) past
     ] refl
+
     whole : (c o : List (List ℕ)) → is_within c o ≡ true → length o ≡ length c → o ≡ c
     whole c o within long = sym (take_all (length c) o (omega (arith, long))) ∙ sym (front_of_within c o within)
+
+-- The path of a child, by its last part
+one_part : (dir path rest : List (List ℕ)) → path ≡ dir ++ rest → length path ≡ length dir + 1 → child_path dir (unwrap_or (last_or None path) []) ≡ path
+one_part dir path [] split long = absurd (omega (arith, long, ap length split, length-append dir []))
+one_part dir path (part ∷ []) split long =
+    ap (λ p. dir ++ unwrap_or (last_or None p) [] ∷ []) split ∙ ap (λ o. dir ++ unwrap_or o [] ∷ []) (last_or-append dir part None) ∙ sym split
+one_part dir path (part ∷ next ∷ rest) split long = absurd (omega (arith, long, ap length split, length-append dir (part ∷ next ∷ rest)))
+
+pub children_are : (dir : List (List ℕ)) (after : Option (List ℕ)) (es : List Named) → All (λ item. IsNamed item × IsTrue (is_child_past dir after item.0)) es
+    → in_directory dir (map child_of es) ≡ es
+children_are dir after [] all = refl
+children_are dir after (e ∷ es) all =
+    let belongs = (All-head (λ item. IsNamed item × IsTrue (is_child_past dir after item.0)) e es all).1 in
+    let split : e.0 ≡ dir ++ drop (length dir) e.0 =
+    sym (take-append-drop (length dir) e.0) ∙ ap (λ front. front ++ drop (length dir) e.0) (sym (front_of_within dir e.0 (front_so _ _ belongs))) in
+    λ i. (one_part dir e.0 (drop (length dir) e.0) split (eq_so _ _ (front_so _ _ (back_so _ _ belongs))) i, e.1)
+    ∷ children_are dir after es (All-tail (λ item. IsNamed item × IsTrue (is_child_past dir after item.0)) e es all) i

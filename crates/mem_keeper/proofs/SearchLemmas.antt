@@ -1,17 +1,15 @@
 -- What a search for the first wanted items makes of a cut tree.
-use Rattle.std.proofs.Common.{◌≡◌, ℕ, zero, suc, ◌≤◌, min, Bool, true, false, cond, List, [], ◌∷◌, ◌++◌, length, take, Option, Some, None, refl, sym, ap, ◌∙◌, subst, append_assoc, arith, inl, inr, map, Result, Ok, Err, OnOk}
-use Rattle.std.proofs.lemmas.List.{append-nil, take_all, map-append, length-map, length-take}
+use Rattle.std.proofs.Common.{◌≡◌, ℕ, zero, suc, ◌≤◌, min, Bool, true, false, cond, List, [], ◌∷◌, ◌++◌, length, take, Option, Some, None, refl, sym, ap, ◌∙◌, subst, append_assoc, arith, Result, Ok, Err, OnOk}
+use Rattle.std.proofs.lemmas.List.{append-nil, take_all, length-map, length-take}
 use Rattle.std.proofs.lemmas.List.Elements.{filter-append}
 use Rattle.std.specs.Borrow.{Bor}
 use Rattle.std.specs.declared.cmp.Ordering.TheVariants.{Less}
-use Rattle.std.specs.FinMap.{is_sorted}
 use Rattle.std.specs.FinMap.Entries.{below_all}
 use Rattle.weed_base.specs.PathOrder.{path_cmp, path_cmp_total, path_cmp-IsAntisymmetric}
 use Rattle.name_core.specs.Pages.{Named}
 use Rattle.mem_keeper.specs.declared.tree.Node.{Node}
-use Rattle.mem_keeper.specs.declared.tree.Tree.{Tree}
-use Rattle.mem_keeper.specs.Items.{Rises, items, named, listed, bound, wanted_of, RisesBetween}
-use Rattle.mem_keeper.specs.declared.wanted.Place.TheVariants.{Ahead, Within, Apart, Behind}
+use Rattle.mem_keeper.specs.Items.{Rises, named, listed, bound, wanted_of}
+use Rattle.mem_keeper.specs.declared.wanted.Place.TheVariants.{Ahead, Behind}
 use Rattle.mem_keeper.specs.Places.{StandsAt, IsNoneBetween, IsNoneAmong}
 use Rattle.mem_keeper.proofs.PutLemmas.{front_so, back_so, is_less, below_all-at, sorted-left}
 
@@ -20,7 +18,7 @@ pub behind_front : (l r : List Named) → Rises (l ++ r) → Rises r
 behind_front [] r rises = rises
 behind_front (x ∷ l) r rises = behind_front l r (back_so _ _ rises)
 
-before_back : (l r : List Named) → Rises (l ++ r) → Rises l
+pub before_back : (l r : List Named) → Rises (l ++ r) → Rises l
 before_back l r rises = sorted-left path_cmp path_cmp_total path_cmp-IsAntisymmetric l r rises
 
 -- The bounds of the left side and of the right

@@ -9,6 +9,7 @@ use std::cmp::Ordering;
 use weed_base::Path;
 
 /// What stands below a path, and past another, if there is one.
+#[derive(Drop)]
 pub struct Below<'a> {
     pub top: &'a Path,
     pub after: Option<&'a Path>,

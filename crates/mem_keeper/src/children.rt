@@ -11,6 +11,7 @@ use std::cmp::Ordering;
 use weed_base::{Name, Path};
 
 /// What stands in a directory, by a name past another, if there is one.
+#[derive(Drop)]
 pub struct Children<'a> {
     pub dir: &'a Path,
     pub after: Option<&'a Name>,

@@ -2,7 +2,7 @@ ghost use Rattle.std.specs.Prelude.{◌≡◌, ◌≢◌, [], IfOk, IfSome, IsNo
 ghost use Rattle.std.specs.FinMap.{empty, get, insert};
 ghost use Rattle.entry.specs.Entry.{IsValid};
 ghost use Rattle.name_core.specs.Namespace.{step};
-ghost use Rattle.name_core.specs.Pages.{page_of};
+ghost use Rattle.name_core.specs.Pages.{page_of, AreNamed, IsPage};
 ghost use Rattle.name_core.specs.declared.change.Change.TheVariants.{Drop};
 ghost use Rattle.mem_keeper.specs.Items.{listed};
 
@@ -43,7 +43,8 @@ impl NameTree {
     /// No names. Takes no memory.
     #[tactic(auto, using(crate::proofs::NameLemmas::none_kept))]
     pub fn new() -> NameTree
-        ensures { result ≡ empty }
+        ensures names { result ≡ empty }
+        ensures named { AreNamed result }
     {
         NameTree { tree: Tree::Empty }
     }
@@ -61,7 +62,8 @@ impl NameTree {
     pub fn put(&mut self, node: Box<Node>)
         requires rootless { node.value.path ≢ [] }
         requires valid { IsValid node.value.entry }
-        ensures { self.new ≡ insert self.old node.value.path node.value.entry }
+        ensures names { self.new ≡ insert self.old node.value.path node.value.entry }
+        ensures named { AreNamed self.new }
     {
         // The text shows that the path is one.
         let _ = node.path.text();
@@ -71,15 +73,22 @@ impl NameTree {
 
     /// Removes what stands at a path and below it. Takes no memory.
     pub fn remove_within(&mut self, top: &Path)
-        ensures { self.new ≡ step (Drop top.now) self.old }
+        ensures names { self.new ≡ step (Drop top.now) self.old }
+        ensures named { AreNamed self.new }
     {
         let tree = mem::replace(&mut self.tree, Tree::Empty);
         self.tree = tree.without(top);
     }
 
     /// The first nodes that are wanted, at most so many, in order.
-    pub fn first<'a, W: Wanted>(&'a self, alloc: Global, wanted: &W, room: u32) -> Result<Vec<&'a Node>, AllocError>
-        ensures { IfOk result (λ found. listed found.items ≡ page_of self.now room (W.belongs wanted.now)) }
+    pub fn first<'a, W: Wanted>(
+        &'a self,
+        alloc: Global,
+        wanted: &W,
+        room: u32,
+    ) -> Result<Vec<&'a Node>, AllocError>
+        ensures first { IfOk result (λ found. listed found.items ≡ page_of self.now room (W.belongs wanted.now)) }
+        ensures page { IfOk result (λ found. IsPage room (W.belongs wanted.now) (listed found.items)) }
     {
         let mut found: Vec<&'a Node> = Vec::new(alloc);
         let search = Search {

@@ -1,6 +1,6 @@
-use Rattle.std.proofs.Common.{◌≡◌, ◌≤◌, ◌++◌, ◌∷◌, [], take, sym, ap, ◌∙◌, subst, option_copied, rules}
+use Rattle.std.proofs.Common.{◌≡◌, ◌++◌, take, sym, ap, ◌∙◌, subst, option_copied, rules}
 use Rattle.std.specs.Prelude.{OnOk}
-use Rattle.mem_keeper.specs.Items.{items, listed, named, node_items, bound, wanted_of}
+use Rattle.mem_keeper.specs.Items.{items, listed, named, node_items, bound}
 use Rattle.mem_keeper.specs.Places.{StandsAt}
 use Rattle.mem_keeper.proofs.SearchLemmas.{rises_to, rises_from, rises_amid, when_ahead, when_behind, none_among, none_added, full_page, also, few_after, found_with, found_without}
 use Rattle.mem_keeper.proofs.search.Search.+gather.Goals as goal

@@ -39,7 +39,7 @@ pub returns-in-Greater : goal.returns-in-Greater
 returns-in-Greater t c rises =
     let n = c.deref_mut-in-Greater.result.now in
     let cut = ap items c.in-Fork.is ∙ ap node_items (sym c.deref_mut-in-Greater.ensures.value)
-        ∙ ap (λ right. items n.left ++ (n.path, n.entry) ∷ items right) (sym (c.replace-right-in-Greater.ensures.value ∙ ap (λ m. m.right) c.deref_mut-in-Greater-2.ensures.value)) in
+    ∙ ap (λ right. items n.left ++ (n.path, n.entry) ∷ items right) (sym (c.replace-right-in-Greater.ensures.value ∙ ap (λ m. m.right) c.deref_mut-in-Greater-2.ensures.value)) in
     c.join_at-in-Greater.ensures
     ∙ ap (λ m. items c.replace-left-in-Greater.result ++ (m.path, m.entry) ∷ items c.without-in-Greater.result) c.deref_mut-in-Greater-2.ensures.value
     ∙ ap (λ left. items left ++ (n.path, n.entry) ∷ items c.without-in-Greater.result) c.replace-left-in-Greater.ensures.value
