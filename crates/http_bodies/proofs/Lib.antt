@@ -1,0 +1,4 @@
+pub mod LineLemmas
+pub mod EndLemmas
+pub mod TrailerLemmas
+pub mod ChunkLemmas

@@ -1,0 +1,4 @@
+pub mod Stage
+pub mod Mark
+pub mod Body
+pub mod Found
