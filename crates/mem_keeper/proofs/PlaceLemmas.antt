@@ -19,7 +19,7 @@ use Rattle.std.specs.Option.{unwrap_or}
 use Rattle.std.proofs.lemmas.List.Elements.{All-head, All-tail}
 use Rattle.name_core.specs.Pages.{Named, IsNamed, is_past, child_path, is_child_past, in_directory}
 use Rattle.mem_keeper.specs.Names.{child_of}
-use Rattle.mem_keeper.specs.declared.wanted.Place.TheVariants.{Ahead, Behind}
+use Rattle.mem_keeper.specs.declared.places.Place.TheVariants.{Ahead, Behind}
 use Rattle.mem_keeper.specs.Places.{StandsAt, IsNoneBetween}
 use Rattle.mem_keeper.proofs.PutLemmas.{front_so, back_so, both_so, is_less}
 use Rattle.mem_keeper.proofs.WithinLemmas.{front_is_within, front_of_within, is_or_below, not_before, between}

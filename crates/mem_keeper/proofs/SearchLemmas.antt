@@ -9,7 +9,7 @@ use Rattle.weed_base.specs.PathOrder.{path_cmp, path_cmp_total, path_cmp-IsAntis
 use Rattle.name_core.specs.Pages.{Named}
 use Rattle.mem_keeper.specs.declared.tree.Node.{Node}
 use Rattle.mem_keeper.specs.Items.{Rises, named, listed, bound, wanted_of}
-use Rattle.mem_keeper.specs.declared.wanted.Place.TheVariants.{Ahead, Behind}
+use Rattle.mem_keeper.specs.declared.places.Place.TheVariants.{Ahead, Behind}
 use Rattle.mem_keeper.specs.Places.{StandsAt, IsNoneBetween, IsNoneAmong}
 use Rattle.mem_keeper.proofs.PutLemmas.{front_so, back_so, is_less, below_all-at, sorted-left}
 

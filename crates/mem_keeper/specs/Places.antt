@@ -3,8 +3,8 @@ use Rattle.std.specs.Prelude.{◌≡◌, ℕ, Bool, true, false, List, Option, N
 use Rattle.std.specs.declared.cmp.Ordering.TheVariants.{Less}
 use Rattle.weed_base.specs.PathOrder.{path_cmp}
 use Rattle.mem_keeper.specs.declared.tree.Node.{Node}
-use Rattle.mem_keeper.specs.declared.wanted.Place.{Place}
-use Rattle.mem_keeper.specs.declared.wanted.Place.TheVariants.{Ahead, Within, Apart, Behind}
+use Rattle.mem_keeper.specs.declared.places.Place.{Place}
+use Rattle.mem_keeper.specs.declared.places.Place.TheVariants.{Ahead, Within, Apart, Behind}
 
 -- What a place says of a path, and of those before it or behind it.
 abbrev pub StandsAt : (List (List ℕ) → Bool) → List (List ℕ) → Place → Type 0

@@ -2,15 +2,19 @@
 #![tactic(auto)]
 
 mod balance;
-mod below;
-mod children;
+mod below_path;
+mod directory;
 mod keeper;
 mod names;
-mod order;
 mod pages;
+mod path_order;
+mod places;
 mod search;
 mod spares;
 mod tree;
-mod wanted;
 
+pub use below_path::Below;
+pub use directory::Children;
 pub use keeper::MemKeeper;
+pub use path_order::order;
+pub use places::{Place, Wanted};

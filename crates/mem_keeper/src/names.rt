@@ -6,9 +6,9 @@ ghost use Rattle.name_core.specs.Pages.{page_of, AreNamed, IsPage};
 ghost use Rattle.name_core.specs.declared.change.Change.TheVariants.{Drop};
 ghost use Rattle.mem_keeper.specs.Items.{listed};
 
+use crate::places::Wanted;
 use crate::search::Search;
 use crate::tree::{Node, Tree};
-use crate::wanted::Wanted;
 use entry::Entry;
 use std::alloc::{AllocError, Global};
 use std::marker::Model;

@@ -3,8 +3,8 @@ ghost use Rattle.name_core.specs.Pages.{in_directory, is_below_past, is_child_pa
 ghost use Rattle.mem_keeper.specs.Items.{listed, named};
 ghost use Rattle.mem_keeper.specs.Names.{child_of};
 
-use crate::below::Below;
-use crate::children::Children;
+use crate::below_path::Below;
+use crate::directory::Children;
 use crate::names::NameTree;
 use crate::tree::Node;
 use entry::Entry;

@@ -2,8 +2,8 @@ ghost use Rattle.std.specs.Prelude.{◌≡◌, ◌≤◌, ◌++◌, ◌∷◌, [
 ghost use Rattle.mem_keeper.specs.Items.{RisesBetween, items, listed, named, wanted_of};
 ghost use Rattle.mem_keeper.specs.Places.{IsNoneAmong};
 
+use crate::places::{Place, Wanted};
 use crate::tree::{Node, Tree};
-use crate::wanted::{Place, Wanted};
 use std::alloc::{AllocError, Global};
 
 /// A search for the first nodes that are wanted, at most so many.

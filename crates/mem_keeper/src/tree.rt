@@ -5,7 +5,7 @@ ghost use Rattle.entry.specs.declared.entry.Entry.{Entry};
 ghost use Rattle.mem_keeper.specs.Items.{IsSearchTree, items, without};
 ghost use Rattle.name_core.specs.Namespace.{is_within};
 
-use crate::order::order;
+use crate::path_order::order;
 use entry::Entry;
 use std::alloc::{AllocError, Global};
 use std::cmp::Ordering;

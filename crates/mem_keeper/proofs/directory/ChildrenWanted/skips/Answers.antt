@@ -1,6 +1,6 @@
 use Rattle.std.proofs.Common.{◌+◌, option_copied, ap}
 use Rattle.mem_keeper.proofs.PlaceLemmas.{none_in_child}
-use Rattle.mem_keeper.proofs.children.ChildrenWanted.skips.Goals as goal
+use Rattle.mem_keeper.proofs.directory.ChildrenWanted.skips.Goals as goal
 
 pub returns : goal.returns
 returns c so =

@@ -2,7 +2,7 @@ use Rattle.std.proofs.Common.{◌==◌, ◌+◌, length, option_copied, sym, ap,
 use Rattle.std.specs.Option.{option_map}
 use Rattle.name_core.specs.Pages.{child_path}
 use Rattle.mem_keeper.proofs.PlaceLemmas.{stands_before, stands_at_top, stands_behind, stands_within, stands_ahead, is_lower_child, as_long}
-use Rattle.mem_keeper.proofs.children.ChildrenWanted.place.Goals as goal
+use Rattle.mem_keeper.proofs.directory.ChildrenWanted.place.Goals as goal
 
 pub returns-in-Less : goal.returns-in-Less
 returns-in-Less c =

@@ -4,8 +4,8 @@ ghost use Rattle.weed_base.specs.Path.{IsBelow};
 ghost use Rattle.name_core.specs.Pages.{child_path, is_child_past, is_past};
 ghost use Rattle.mem_keeper.specs.Places.{StandsAt, IsNoneBetween};
 
-use crate::order::order;
-use crate::wanted::{Place, Wanted};
+use crate::path_order::order;
+use crate::places::{Place, Wanted};
 use std::alloc::{AllocError, Global};
 use std::cmp::Ordering;
 use weed_base::{Name, Path};

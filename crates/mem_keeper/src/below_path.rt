@@ -2,8 +2,8 @@ ghost use Rattle.std.specs.Prelude.{◌≡◌, IfOk, IsTrue, option_copied};
 ghost use Rattle.name_core.specs.Pages.{is_below_past, is_past};
 ghost use Rattle.mem_keeper.specs.Places.{StandsAt, IsNoneBetween};
 
-use crate::order::order;
-use crate::wanted::{Place, Wanted};
+use crate::path_order::order;
+use crate::places::{Place, Wanted};
 use std::alloc::{AllocError, Global};
 use std::cmp::Ordering;
 use weed_base::Path;

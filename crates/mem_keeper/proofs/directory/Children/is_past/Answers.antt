@@ -3,7 +3,7 @@ use Rattle.std.specs.declared.cmp.Ordering.TheVariants.{Less, Equal, Greater}
 use Rattle.std.specs.Ordering.{nat_cmp}
 use Rattle.std.specs.Cmp.Lexicographic.{slice_cmp}
 use Rattle.mem_keeper.proofs.PlaceLemmas.{past_as, child_name, more_than_one}
-use Rattle.mem_keeper.proofs.children.Children.is_past.Goals as goal
+use Rattle.mem_keeper.proofs.directory.Children.is_past.Goals as goal
 
 pub returns-in-Less : goal.returns-in-Less
 returns-in-Less c =

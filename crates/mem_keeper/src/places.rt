@@ -5,6 +5,7 @@ use std::alloc::{AllocError, Global};
 use weed_base::Path;
 
 /// Where a path stands beside those that are wanted, in the order of paths.
+#[derive(Clone, Copy, Debug, PartialEq, Eq)]
 pub enum Place {
     /// It isn't wanted, nor is any before it.
     Ahead,

@@ -1,6 +1,6 @@
 use Rattle.std.proofs.Common.{nat_lt, length, option_copied, sym, ◌∙◌}
 use Rattle.mem_keeper.proofs.PlaceLemmas.{stands_before, stands_at_top, stands_behind, stands_within, stands_ahead, is_lower, below_is_lower}
-use Rattle.mem_keeper.proofs.below.BelowWanted.place.Goals as goal
+use Rattle.mem_keeper.proofs.below_path.BelowWanted.place.Goals as goal
 
 pub returns-in-Less : goal.returns-in-Less
 returns-in-Less c =

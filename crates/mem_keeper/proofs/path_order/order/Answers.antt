@@ -5,7 +5,7 @@ use Rattle.std.specs.Cmp.Lexicographic.{slice_cmp}
 use Rattle.std.proofs.lemmas.Iterator.Splits.{YieldsList-from_slice_split}
 use Rattle.std.proofs.lemmas.Iterator.Search.{cmp_from_yields_List}
 use Rattle.mem_keeper.proofs.OrderLemmas.{cut_order}
-use Rattle.mem_keeper.proofs.order.order.Goals as goal
+use Rattle.mem_keeper.proofs.path_order.order.Goals as goal
 
 pub returns : goal.returns
 returns c =
