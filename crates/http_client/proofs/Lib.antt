@@ -1,2 +1,5 @@
 pub mod RequestTextLemmas
 pub mod SentLemmas
+pub mod AnswerFrontLemmas
+pub mod AnswerNextLemmas
+pub mod FillLemmas

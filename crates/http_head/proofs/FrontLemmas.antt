@@ -42,7 +42,8 @@ field_length field named =
     let end = end_length field.end in
     grind (arith, length-append, end, named)
 
-fields_length : (fields : List Field) → All IsField fields → 3 * length fields ≤ length (flat_map print_field fields)
+-- each line of a head has three bytes or more
+pub fields_length : (fields : List Field) → All IsField fields → 3 * length fields ≤ length (flat_map print_field fields)
 fields_length [] valid = omega arith
 fields_length (field ∷ fields) valid =
     let one = field_length field (All-head IsField field fields valid).name.0 in

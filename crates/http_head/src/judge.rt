@@ -40,7 +40,8 @@ fn is_encoded(lines: &[Header<'_>]) -> bool
     lines.iter().any(|line| is_named(line, "content-encoding") && !is_word(line.value, b"identity"))
 }
 
-fn says_close(lines: &[Header<'_>]) -> bool
+/// Whether some line says that the connection closes.
+pub fn says_close(lines: &[Header<'_>]) -> bool
     ensures { result ≡ says_close (map header_parts lines.now) }
 {
     lines.iter().any(|line| is_named(line, "connection") && has_word(line.value, b"close"))
