@@ -21,3 +21,4 @@ pub mod Living
 pub mod Fitting
 pub mod Copied
 pub mod Kept
+pub mod Vacuums

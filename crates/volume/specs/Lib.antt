@@ -15,3 +15,4 @@ pub mod Copying
 pub mod Writes
 pub mod Deletes
 pub mod Lives
+pub mod Vacuuming

@@ -17,6 +17,7 @@ mod open;
 mod reading;
 mod standing;
 mod summing;
+mod vacuum;
 mod walk;
 mod window;
 mod writing;

@@ -31,7 +31,7 @@ pub(crate) struct Seen {
 }
 
 /// The head at a place.
-fn head_at<D: Disk>(
+pub(crate) fn head_at<D: Disk>(
     disk: &mut D,
     name: &FileName,
     window: &mut Window,
@@ -85,7 +85,7 @@ fn check_tail<D: Disk>(
 }
 
 /// What is said of the item of a head at a place, whose bytes are all looked at.
-fn judge<D: Disk>(
+pub(crate) fn judge<D: Disk>(
     disk: &mut D,
     name: &FileName,
     window: &mut Window,
