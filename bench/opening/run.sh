@@ -12,11 +12,11 @@ trap 'rm -rf "$scratch"' EXIT
 
 "$top/weed" --version > /dev/null
 mkdir -p "$scratch/crates/opening_times/src"
-for crate in weed_base real_forms proto_wire name_core meta_log; do
+for crate in weed_base real_forms proto_wire file_id entry name_core records meta_log; do
     cp -r "$top/crates/$crate" "$scratch/crates/"
 done
 cp "$top/HANDLES" "$scratch/"
-grep -E '^(weed_base|real_forms|proto_wire|name_core|meta_log):' "$top/crates.txt" > "$scratch/crates.txt"
+grep -E '^(weed_base|real_forms|proto_wire|file_id|entry|name_core|records|meta_log):' "$top/crates.txt" > "$scratch/crates.txt"
 echo 'opening_times: meta_log real_forms weed_base anyhow' >> "$scratch/crates.txt"
 cp "$here/program.txt" "$scratch/crates/opening_times/src/main.rt"
 (cd "$scratch/crates/opening_times" && rt run > log 2>&1 < /dev/null) || { tail -40 "$scratch/crates/opening_times/log"; exit 1; }

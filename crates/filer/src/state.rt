@@ -9,6 +9,7 @@ use filer_keeper::Keeper;
 use log_buffer::Outlet;
 use meta_log::{Front, GateText, MetaLog};
 use name_core::{Command, Record, plan};
+use records::write_record;
 use std::alloc::Global;
 use weed_base::Disk;
 
@@ -32,7 +33,8 @@ impl<K: Keeper, O: Outlet> FilerState<K, O> {
     ghost use Rattle.filer_keeper.specs.Commit.{put_count};
     ghost use Rattle.name_core.specs.declared.change.Record.{Record as RecordValue};
     ghost use Rattle.name_core.specs.Plan.{Planned};
-    ghost use Rattle.name_core.specs.RecordText.{record_text, CanBeWritten};
+    ghost use Rattle.name_core.specs.RecordText.{CanBeWritten};
+    ghost use Rattle.records.specs.RecordText.{record_text};
     ghost use Rattle.meta_log.specs.Records.{ReadsAs};
     ghost use Rattle.filer.specs.Faults.{IsMemoryOrKeeper};
     ghost use Rattle.filer.specs.Plans.{IsPlan};
@@ -83,7 +85,6 @@ impl<K: Keeper, O: Outlet> FilerState<K, O> {
         requires idle { O.offered (outlet_of self.old) ≡ None }
         requires held { (records : List RecordValue) × HoldsState K.Names.map (D.files disk.old) self.old records }
         requires writable { CanBeWritten made }
-        requires read_back { ReadsAs (record_text made) made }
         requires short { length (record_text made) ≤ 67108864 }
         requires later { (published_of self.old).time < made.time }
         ensures added { Adds D.Disk K.Names.map made self.old self.new disk.old disk.new result }
@@ -118,6 +119,7 @@ impl<K: Keeper, O: Outlet> FilerState<K, O> {
         requires short { length (record_text made.now) ≤ 67108864 }
         requires later { (published_of self.old).time < made.now.time }
         ensures ready { IfOk result (λ ready. ready ≡ record_text made.now) }
+        ensures reads { IfOk result (λ ready. ReadsAs ready made.now) }
         ensures spare { OnOk result (put_count made.now.changes ≤ K.spare (keeper_of self.new)) }
         ensures offered { OnOk result (O.offered (outlet_of self.new) ≡ Some (record_text made.now)) }
         ensures idle { OnErr result (O.offered (outlet_of self.new) ≡ None) }
@@ -128,7 +130,7 @@ impl<K: Keeper, O: Outlet> FilerState<K, O> {
         ensures cause { IsCauseOf (K.Names.faults (keeper_of self.old)) (K.Names.faults (keeper_of self.new)) (IsErrOf result ApplyFault.KeeperFault) }
         ensures faults { IfErr result IsMemoryOrKeeper }
     {
-        let text = made.write(alloc)?;
+        let text = write_record(alloc, made)?;
         let ready = GateText::make(alloc, text.as_slice())?;
         reserve_for(&mut self.keeper, made)?;
         self.outlet.offer(alloc, text)?;

@@ -9,7 +9,6 @@ mod images;
 mod link_frame;
 mod logs;
 mod paths;
-mod records;
 
 fn check(rt: &impl Abort, is_so: bool) {
     assert!(rt; is_so);

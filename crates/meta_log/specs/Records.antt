@@ -5,7 +5,7 @@ use Rattle.std.specs.declared.result.Result.TheVariants.{Ok}
 use Rattle.name_core.specs.declared.change.Record.{Record}
 use Rattle.name_core.specs.Log.{TimesRise, last_time}
 use Rattle.meta_log.specs.declared.front.Front.{Front}
-use Rattle.name_core.specs.RecordReading.{record_of}
+use Rattle.records.specs.RecordReading.{record_of}
 
 -- The payload reads as the record.
 abbrev pub ReadsAs : List ℕ → Record → Type 0

@@ -14,7 +14,7 @@ mod opening;
 mod payloads;
 mod place;
 mod reading;
-mod records;
+mod rising;
 mod scan;
 mod standing;
 mod stem;

@@ -18,7 +18,7 @@ use crate::left::collect;
 use crate::opening::open_first;
 use crate::place::Place;
 use crate::reading::Reading;
-use crate::records::{RisingRecords, skip_past};
+use crate::rising::{RisingRecords, skip_past};
 use crate::stem::{Stem, first_segment};
 use std::alloc::Global;
 use weed_base::{Disk, Failed, Items, LogText};

@@ -1,13 +1,5 @@
 pub mod Paths
 pub mod NamespaceLemmas
 pub mod PlanLemmas
-pub mod PathTexts
 pub mod PlanLoop
-pub mod RecordSizes
-pub mod MessageLemmas
-pub mod ReadPaths
-pub mod ReadingLoop
-pub mod ReadRecords
-pub mod RoundTrip
-pub mod PlanReadBack
 pub mod MadeLemmas

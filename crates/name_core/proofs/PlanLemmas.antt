@@ -1,6 +1,6 @@
 -- What a plan keeps of a namespace and of a log.
-use Rattle.std.proofs.Common.{◌≡◌, ◌≢◌, ◌⊎◌, ℕ, ◌<◌, ◌≤◌, Bool, true, false, cond, List, [], ◌∷◌, ◌++◌, length, Some, None, Option, refl, sym, ap, append_assoc, append-nil, ◌∙◌, subst, inl, inr, arith, eqb}
-use Rattle.std.specs.Prelude.{All, is_none}
+use Rattle.std.proofs.Common.{◌≡◌, ◌≢◌, ◌⊎◌, ℕ, ◌<◌, ◌≤◌, Bool, true, false, cond, List, [], ◌∷◌, ◌++◌, length, Some, None, Option, Ok, Err, Result, refl, sym, ap, append_assoc, append-nil, ◌∙◌, subst, inl, inr, arith, eqb}
+use Rattle.std.specs.Prelude.{All, is_none, IfOk, IfSome}
 use Rattle.std.specs.FinMap.{get, insert, empty}
 use Rattle.std.proofs.lemmas.Bool.{eqb-false, false≢true}
 use Rattle.std.proofs.lemmas.List.Elements.{All-nil, All-cons, All-append, All-filter, All-map}
@@ -12,9 +12,10 @@ use Rattle.name_core.specs.declared.change.Change.TheVariants.{Put}
 use Rattle.name_core.specs.declared.change.Record.{Record}
 use Rattle.name_core.specs.declared.command.Command.{Command}
 use Rattle.name_core.specs.declared.command.Command.TheVariants.{MakeDir}
+use Rattle.name_core.specs.declared.command.PlanFault.{PlanFault}
 use Rattle.name_core.specs.declared.command.Refusal.TheVariants.{ClockAtEnd}
 use Rattle.entry.specs.Entry.{is_file_kind}
-use Rattle.name_core.specs.Plan.{new_directory, prefixes_from, prefixes, is_file, first_file, missing, puts, unless_file, record_time, Recorded, Refused, recorded, planned, plan_of}
+use Rattle.name_core.specs.Plan.{new_directory, prefixes_from, prefixes, is_file, first_file, missing, puts, unless_file, record_time, Recorded, Refused, recorded, planned, plan_of, Plans, MakesDirectories}
 use Rattle.name_core.specs.Namespace.{Namespace, path_of, AreRootless, after_changes, IsDirectoryIn, IsWellFormed, KeepsWellFormed}
 use Rattle.name_core.specs.Log.{end_of_time, changes_of, after_record, fold, last_time_from, last_time, TimesRise, IsSound}
 use Rattle.name_core.proofs.Paths.{filled-append, get-insert_other, get-insert_same, longer_is_other, longer_than_top}
@@ -96,6 +97,17 @@ recorded_is false last time changes made b e =
 pub recorded_makes : (last time : ℕ) (changes : List Change) (made : Record) → recorded last time changes ≡ Recorded made → Makes changes last time made
 recorded_makes last time [] made e = cc
 recorded_makes last time (change ∷ more) made e = recorded_is (eqb last end_of_time) last time (change ∷ more) made refl e
+
+-- An answer's record makes new directories.
+makes_directories : (time last : ℕ) (changes : List Change) (made : Record) → MakesDirectories time changes → Makes changes last time made → MakesDirectories made.time made.changes
+makes_directories time last changes made directories makes =
+    subst (λ moment. MakesDirectories moment made.changes) (sym makes.time) (subst (MakesDirectories time) (sym makes.changes) directories)
+
+pub plan_makes_directories : (time last : ℕ) (changes : List Change) (result : Result (Option Record) PlanFault) → MakesDirectories time changes
+    → Plans (recorded last time changes) result → IfOk result (λ answer. IfSome answer (λ made. MakesDirectories made.time made.changes))
+plan_makes_directories time last changes (Ok (Some made)) directories is = makes_directories time last changes made directories (recorded_makes last time changes made is)
+plan_makes_directories time last changes (Ok None) directories is = tt
+plan_makes_directories time last changes (Err fault) directories is = tt
 
 pub planned_makes : (last time : ℕ) (file : Option (List (List ℕ))) (changes : List Change) (made : Record) → planned last time (unless_file file changes) ≡ Recorded made → (file ≡ None) × Makes changes last time made
 planned_makes last time None changes made e = (refl, recorded_makes last time changes made e)

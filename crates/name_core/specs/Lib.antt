@@ -4,7 +4,3 @@ pub mod Log
 pub mod Pages
 pub mod Plan
 pub mod RecordText
-pub mod Messages
-pub mod RecordReading
-pub mod Steps
-pub mod Readable

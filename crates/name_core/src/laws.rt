@@ -1,13 +1,10 @@
-ghost use Rattle.std.specs.Prelude.{◌≡◌, ◌≤◌, ◌<◌, ◌^◌, ℕ, List, [], ◌∷◌, ◌++◌, length, All, Ok};
+ghost use Rattle.std.specs.Prelude.{◌≡◌, ◌≤◌, ◌<◌, ℕ, List, [], ◌∷◌, ◌++◌, All};
 ghost use Rattle.name_core.specs.declared.change.Record.{Record};
 ghost use Rattle.name_core.specs.declared.command.Command.{Command};
 ghost use Rattle.name_core.specs.declared.command.Command.TheVariants.{MakeDir};
 ghost use Rattle.name_core.specs.Namespace.{Namespace, IsDirectoryIn, IsWellFormed, KeepsWellFormed};
 ghost use Rattle.name_core.specs.Log.{end_of_time, last_time, fold, IsSound, after_record};
 ghost use Rattle.name_core.specs.Plan.{Recorded, Nothing, prefixes, plan_of};
-ghost use Rattle.name_core.specs.Readable.{FitsTypes, PutsDirectory};
-ghost use Rattle.name_core.specs.RecordReading.{record_of};
-ghost use Rattle.name_core.specs.RecordText.{CanBeWritten, record_text};
 
 /// Each change of a plan's record leaves a well-formed namespace, where the first one is.
 pub fn plans_keep_names_well_formed()
@@ -35,10 +32,4 @@ pub fn made_directories_are_there()
         → plan_of names (MakeDir path) clock last ≡ Recorded made → All (IsDirectoryIn (after_record made names)) (prefixes path) }
     ensures there { (names : Namespace) (path : List (List ℕ)) (clock last : ℕ)
         → plan_of names (MakeDir path) clock last ≡ Nothing → All (IsDirectoryIn names) (prefixes path) }
-{}
-
-/// What is written is read back. Until files are read, this is so of records of directories.
-pub fn written_records_are_read()
-    ensures { (written : Record) → CanBeWritten written → All FitsTypes written.changes → All PutsDirectory written.changes
-        → length (record_text written) < 2 ^ 64 → record_of (record_text written) ≡ Ok written }
 {}

@@ -1,9 +1,8 @@
-ghost use Rattle.std.specs.Prelude.{◌≡◌, ◌≤◌, ◌<◌, ◌+◌, length, Ok, IfOk, IfSome, IsErrOf};
+ghost use Rattle.std.specs.Prelude.{◌≡◌, ◌≤◌, ◌<◌, ◌+◌, IfOk, IfSome, IsErrOf};
 ghost use Rattle.weed_base.specs.Told.{IsCauseOf};
 ghost use Rattle.name_core.specs.Log.{end_of_time};
 ghost use Rattle.name_core.specs.Plan.{changes_for, directories_at, plan_of, prefixes, recorded, record_time, Changes, MakesDirectories, Plans};
-ghost use Rattle.name_core.specs.RecordReading.{record_of};
-ghost use Rattle.name_core.specs.RecordText.{CanBeWritten, record_text};
+ghost use Rattle.name_core.specs.RecordText.{CanBeWritten};
 
 use crate::change::{Change, END_OF_TIME, Record, RecordChanges};
 use crate::command::{Command, PlanFault, Refusal};
@@ -32,8 +31,7 @@ pub fn plan<V: Names>(
     ensures time { IfOk result (λ answer. IfSome answer (λ made. made.time ≡ record_time now last)) }
     ensures later { IfOk result (λ answer. IfSome answer (λ made. last < made.time)) }
     ensures writable { IfOk result (λ answer. IfSome answer CanBeWritten) }
-    ensures short { IfOk result (λ answer. IfSome answer (λ made. length (record_text made) ≤ 67108864)) }
-    ensures read_back { IfOk result (λ answer. IfSome answer (λ made. record_of (record_text made) ≡ Ok made)) }
+    ensures directories { IfOk result (λ answer. IfSome answer (λ made. MakesDirectories made.time made.changes)) }
     ensures end { IsErrOf result (PlanFault.Refused Refusal.ClockAtEnd) → last ≡ end_of_time }
 {
     let time = next_time(now, last);

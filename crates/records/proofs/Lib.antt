@@ -1,3 +1,7 @@
+pub mod PathTexts
+pub mod MessageLemmas
+pub mod ReadPaths
+pub mod RecordSizes
 pub mod ReadingLoop
 pub mod ReadRecords
 pub mod ChunkRoundTrip

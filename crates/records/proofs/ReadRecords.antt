@@ -19,19 +19,22 @@ use Rattle.entry.proofs.ValidEntries.{entry_is_valid}
 use Rattle.name_core.specs.declared.change.Change.{Change}
 use Rattle.name_core.specs.declared.change.Change.TheVariants.{Put, Drop}
 use Rattle.name_core.specs.declared.change.Record.{Record}
-use Rattle.name_core.specs.declared.record_fault.RecordFault.{RecordFault}
-use Rattle.name_core.specs.declared.record_fault.RecordFault.TheVariants as faults
+use Rattle.records.specs.declared.record_fault.RecordFault.{RecordFault}
+use Rattle.records.specs.declared.record_fault.RecordFault.TheVariants as faults
 use Rattle.name_core.specs.Log.{end_of_time}
-use Rattle.name_core.specs.Messages.{event_fields_in, notification_in}
+use Rattle.records.specs.Messages.{event_fields_in, notification_in}
 use Rattle.name_core.specs.Namespace.{path_of}
-use Rattle.name_core.specs.RecordReading.{or_wire, record_with, path_in, path_read, path_with, ReadsRecord}
+use Rattle.records.specs.RecordReading.{or_wire, record_with, ReadsRecord, record_if, record_with_events, record_of}
+use Rattle.records.specs.Events.{path_in, path_read, path_with, entry_if_there, entries_at, event_at, directory_of_new, place_of, drop_of, put_of, moved_to, entries_mean, event_means, both, meant_at, all_meant_at}
 use Rattle.name_core.specs.RecordText.{HasValidEntry, CanBeWritten}
 use Rattle.name_core.proofs.Paths.{filled-append}
-use Rattle.name_core.proofs.ReadRecords.{IsGood}
 use Rattle.records.specs.declared.event_parts.EntriesParts.{EntriesParts}
 use Rattle.records.specs.declared.event_parts.EventParts.{EventParts}
-use Rattle.records.specs.Events.{entry_if_there, entries_at, event_at, directory_of_new, place_of, drop_of, put_of, moved_to, entries_mean, event_means, both, meant_at, all_meant_at}
-use Rattle.records.specs.RecordReading.{record_if, record_with_events, record_of}
+
+-- A change that a record may have
+pub record IsGood (change : Change) : Type 0 where
+  pub rootless : path_of change ≢ []
+  pub valid : HasValidEntry change
 
 -- ---- What holds of a value that may be there
 

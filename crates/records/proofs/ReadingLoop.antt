@@ -15,10 +15,11 @@ use Rattle.weed_base.specs.PathOrder.{same_path}
 use Rattle.name_core.specs.declared.change.Change.TheVariants.{Drop}
 use Rattle.name_core.specs.Namespace.{path_of}
 use Rattle.name_core.specs.declared.change.Record.{Record}
-use Rattle.name_core.specs.declared.record_fault.RecordFault.{RecordFault}
-use Rattle.name_core.specs.declared.record_fault.RecordFault.TheVariants as faults
+use Rattle.records.specs.declared.record_fault.RecordFault.{RecordFault}
+use Rattle.records.specs.declared.record_fault.RecordFault.TheVariants as faults
 use Rattle.name_core.specs.Log.{end_of_time}
-use Rattle.name_core.specs.RecordReading.{or_wire, FindsMeant}
+use Rattle.records.specs.RecordReading.{or_wire, record_if, record_with_events, Collects}
+use Rattle.records.specs.Events.{FindsMeant, both, listed, moved_to, directory_of_new, place_of, put_of, entries_mean, FindsChanges, event_at, event_means, meant_at, all_meant_at}
 use Rattle.entry.specs.EntryParts.{EntryParts}
 use Rattle.std.specs.declared.alloc.AllocError.{AllocError}
 use Rattle.records.specs.declared.event_parts.EventParts.{EventParts}
@@ -26,8 +27,6 @@ use Rattle.records.specs.declared.found.Found.{Found}
 use Rattle.records.specs.declared.found.Found.TheVariants.{Changes, OutOfMemory, Nothing}
 use Rattle.records.specs.declared.meaning.EventChanges.{EventChanges}
 use Rattle.records.specs.declared.meaning.EventChanges.TheVariants.{One, Two}
-use Rattle.records.specs.Events.{both, listed, moved_to, directory_of_new, place_of, put_of, entries_mean, FindsChanges, event_at, event_means, meant_at, all_meant_at}
-use Rattle.records.specs.RecordReading.{record_if, record_with_events, Collects}
 
 -- ---- Lists of events
 

@@ -20,19 +20,18 @@ use Rattle.entry.proofs.RoundTrip.{Makes, text_more, message_more, and_true, ins
 use Rattle.name_core.specs.declared.change.Change.{Change}
 use Rattle.name_core.specs.declared.change.Change.TheVariants.{Put, Drop}
 use Rattle.name_core.specs.declared.change.Record.{Record}
-use Rattle.name_core.specs.declared.record_fault.RecordFault.TheVariants as faults
+use Rattle.records.specs.declared.record_fault.RecordFault.TheVariants as faults
 use Rattle.name_core.specs.Log.{end_of_time}
-use Rattle.name_core.specs.Messages.{NotificationText, notification_in, EventFieldsText, event_fields_in}
+use Rattle.records.specs.Messages.{NotificationText, notification_in, EventFieldsText, event_fields_in}
 use Rattle.name_core.specs.Namespace.{path_of, AreRootless}
-use Rattle.name_core.specs.RecordReading.{or_wire, record_with, path_in}
+use Rattle.records.specs.RecordReading.{or_wire, record_with, record_if, record_with_events, record_of}
+use Rattle.records.specs.Events.{path_in, entries_at, event_at, place_of, event_means, both, meant_at, all_meant_at}
 use Rattle.name_core.specs.RecordText.{directory_of, name_of, HasValidEntry, CanBeWritten}
-use Rattle.name_core.specs.Steps.{event_with_text}
-use Rattle.name_core.proofs.MessageLemmas.{event_text}
-use Rattle.name_core.proofs.ReadPaths.{path_found}
+use Rattle.records.specs.Steps.{event_with_text}
+use Rattle.records.proofs.MessageLemmas.{event_text}
+use Rattle.records.proofs.ReadPaths.{path_found}
 use Rattle.records.specs.declared.event_parts.EntriesParts.{EntriesParts}
 use Rattle.records.specs.declared.event_parts.EventParts.{EventParts}
-use Rattle.records.specs.Events.{entries_at, event_at, place_of, event_means, both, meant_at, all_meant_at}
-use Rattle.records.specs.RecordReading.{record_if, record_with_events, record_of}
 use Rattle.records.specs.RecordText.{change_text, events_text, record_text, FitsChange}
 use Rattle.records.proofs.EntryRoundTrip.{ReadsBack, entry_is_read_back, name_is_read}
 

@@ -1,7 +1,9 @@
 -- How the text of an event is read, and which changes it means. Of a message its own fields are read first, then the
 -- messages that it takes, in the order of the bytes.
 use Rattle.std.specs.declared.alloc.AllocError.{AllocError}
-use Rattle.std.specs.Prelude.{◌≡◌, ℕ, List, [], ◌∷◌, ◌++◌, length, Option, None, Some, option_map, option_and_then, Result, Ok, Err, Bool, true, false, ◌==◌, if◌then◌else◌}
+use Rattle.std.specs.Prelude.{◌≡◌, ℕ, List, [], ◌∷◌, ◌++◌, length, Option, None, Some, option_map, option_and_then, is_none, IsSome, Result, Ok, Err, Bool, true, false, ◌==◌, if◌then◌else◌}
+use Rattle.weed_base.specs.Path.{parts_in}
+use Rattle.weed_base.specs.PathFaults.{read_fault, join_fault}
 use Rattle.weed_base.specs.PathOrder.{same_path}
 use Rattle.proto_wire.specs.declared.fault.WireFault.{WireFault}
 use Rattle.proto_wire.specs.Field.{◌>>=◌, fields_of}
@@ -9,9 +11,8 @@ use Rattle.entry.specs.EntryParts.{EntryParts}
 use Rattle.entry.specs.EntryReading.{entry_at, is_entry, entry_of}
 use Rattle.name_core.specs.declared.change.Change.{Change}
 use Rattle.name_core.specs.declared.change.Change.TheVariants.{Put, Drop}
-use Rattle.name_core.specs.Messages.{notification_in, event_fields_in}
+use Rattle.records.specs.Messages.{notification_in, event_fields_in}
 use Rattle.name_core.specs.Namespace.{path_of}
-use Rattle.name_core.specs.RecordReading.{path_in}
 use Rattle.records.specs.declared.event_parts.EntriesParts.{EntriesParts}
 use Rattle.records.specs.declared.event_parts.EventParts.{EventParts}
 use Rattle.records.specs.declared.meaning.EventChanges.{EventChanges}
@@ -49,6 +50,18 @@ event_at text = do
 abbrev pub directory_of_new : EventParts → List ℕ
 directory_of_new event = if length event.notification.new_parent == 0 then event.fields.directory else event.notification.new_parent
 
+-- The path that a text is read as, where it is one.
+abbrev pub path_read : List ℕ → Option (List (List ℕ))
+path_read text = if is_none (read_fault text) then Some (parts_in text) else None
+
+-- The path of a name in a directory, where it is one.
+abbrev pub path_with : List ℕ → List (List ℕ) → Option (List (List ℕ))
+path_with name top = if is_none (join_fault top name) then Some (top ++ name ∷ []) else None
+
+-- The same of the text of the directory.
+abbrev pub path_in : List ℕ → List ℕ → Option (List (List ℕ))
+path_in directory name = option_and_then (path_with name) (path_read directory)
+
 -- The path of an entry, where its values are good and that is one.
 abbrev pub place_of : List ℕ → EntryParts → Option (List (List ℕ))
 place_of directory entry = if is_entry entry then path_in directory entry.fields.name else None
@@ -80,6 +93,11 @@ event_means event = entries_mean event.fields.directory (directory_of_new event)
 abbrev pub listed : EventChanges → List Change
 listed (One change) = change ∷ []
 listed (Two change other) = change ∷ other ∷ []
+
+-- An answer is what is meant. Memory runs out only where that is something.
+abbrev pub FindsMeant : {X : Type 0} → Option X → Result (Option X) AllocError → Type 0
+FindsMeant meant (Ok found) = found ≡ meant
+FindsMeant meant (Err failed) = IsSome meant
 
 -- An answer is what an event means. Memory runs out only where that is something.
 abbrev pub FindsChanges : Option (List Change) → Result (Option EventChanges) AllocError → Type 0

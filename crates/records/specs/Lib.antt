@@ -1,3 +1,5 @@
+pub mod Messages
+pub mod Steps
 pub mod Events
 pub mod RecordReading
 pub mod RecordText

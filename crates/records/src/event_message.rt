@@ -16,7 +16,7 @@ pub struct NotificationFields<'a> {
 
 impl<'a> Model for NotificationFields<'a> {
     ghost use Rattle.std.specs.Prelude.{option_copied};
-    ghost use Rattle.name_core.specs.Messages.{NotificationText};
+    ghost use Rattle.records.specs.Messages.{NotificationText};
 
     ghost Value = { NotificationText };
 
@@ -29,7 +29,7 @@ impl<'a> Model for NotificationFields<'a> {
 }
 
 impl<'a> NotificationFields<'a> {
-    ghost use Rattle.name_core.specs.Steps.{notification_with_text};
+    ghost use Rattle.records.specs.Steps.{notification_with_text};
 
     fn take_text(&mut self, number: u32, text: &'a [u8])
         ensures { self.new ≡ notification_with_text number text.entry.now self.old }
@@ -50,7 +50,7 @@ impl<'a> NotificationFields<'a> {
 }
 
 impl<'a> Message<'a> for NotificationFields<'a> {
-    ghost use Rattle.name_core.specs.Messages.{notification_in};
+    ghost use Rattle.records.specs.Messages.{notification_in};
 
     ghost IsOf = { λ fields taken. taken ≡ notification_in fields };
 
@@ -79,7 +79,7 @@ pub struct EventFields<'a> {
 }
 
 impl<'a> Model for EventFields<'a> {
-    ghost use Rattle.name_core.specs.Messages.{EventFieldsText};
+    ghost use Rattle.records.specs.Messages.{EventFieldsText};
 
     ghost Value = { EventFieldsText };
 
@@ -90,7 +90,7 @@ impl<'a> Model for EventFields<'a> {
 }
 
 impl<'a> EventFields<'a> {
-    ghost use Rattle.name_core.specs.Steps.{event_with_text};
+    ghost use Rattle.records.specs.Steps.{event_with_text};
 
     fn take_text(&mut self, number: u32, text: &'a [u8])
         ensures { self.new ≡ event_with_text number text.entry.now self.old }
@@ -104,7 +104,7 @@ impl<'a> EventFields<'a> {
 }
 
 impl<'a> Message<'a> for EventFields<'a> {
-    ghost use Rattle.name_core.specs.Messages.{event_fields_in};
+    ghost use Rattle.records.specs.Messages.{event_fields_in};
 
     ghost IsOf = { λ fields taken. taken ≡ event_fields_in fields };
 

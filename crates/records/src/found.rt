@@ -1,12 +1,12 @@
 ghost use Rattle.std.specs.Prelude.{◌≡◌, ◌++◌, ◌∷◌, [], List, Option, Some, OnOk, nat_le, ◌&&◌};
 ghost use Rattle.name_core.specs.Log.{end_of_time};
-ghost use Rattle.name_core.specs.RecordReading.{record_with, ReadsRecord};
+ghost use Rattle.records.specs.RecordReading.{record_with, ReadsRecord, record_if, Collects};
 ghost use Rattle.name_core.specs.declared.change.Change.{Change};
 ghost use Rattle.records.specs.Events.{both, listed, FindsChanges};
-ghost use Rattle.records.specs.RecordReading.{record_if, Collects};
 
 use crate::meaning::EventChanges;
-use name_core::{Change, Record, RecordChanges, RecordFault};
+use crate::record_fault::RecordFault;
+use name_core::{Change, Record, RecordChanges};
 use std::alloc::{AllocError, Global};
 
 /// The last time that a record may have.

@@ -3,8 +3,7 @@ ghost use Rattle.std.specs.Prelude.{◌≡◌, ◌≢◌, ℕ, List, Option, IsE
 ghost use Rattle.weed_base.specs.PathOrder.{same_path};
 ghost use Rattle.name_core.specs.declared.change.Change.{Change as ChangeText};
 ghost use Rattle.name_core.specs.declared.change.Change.TheVariants.{Drop};
-ghost use Rattle.name_core.specs.RecordReading.{path_in, FindsMeant};
-ghost use Rattle.records.specs.Events.{directory_of_new, event_means, listed, moved_to, place_of, put_of, FindsChanges};
+ghost use Rattle.records.specs.Events.{path_in, FindsMeant, directory_of_new, event_means, listed, moved_to, place_of, put_of, FindsChanges};
 
 use crate::event_parts::EventParts;
 use entry::EntryText;

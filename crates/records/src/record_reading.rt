@@ -1,15 +1,15 @@
 ghost use Rattle.std.specs.Prelude.{◌≡◌, List, Ok, IfOk, option_copied};
 ghost use Rattle.proto_wire.specs.Field.{FieldText, field_text, fields_of};
 ghost use Rattle.proto_wire.specs.Taken.{text_in};
-ghost use Rattle.name_core.specs.RecordReading.{ReadsRecord};
+ghost use Rattle.records.specs.RecordReading.{ReadsRecord, record_of, record_with_events};
 ghost use Rattle.name_core.specs.RecordText.{CanBeWritten};
-ghost use Rattle.records.specs.RecordReading.{record_of, record_with_events};
 
 use crate::event_message::RecordFields;
 use crate::event_reading::read_event;
 use crate::found::Found;
 use crate::meaning::changes_of;
-use name_core::{Record, RecordFault};
+use crate::record_fault::RecordFault;
+use name_core::Record;
 use proto_wire::{Field, Reader, Value, read_message};
 use std::alloc::Global;
 

@@ -5,8 +5,7 @@ use Rattle.weed_base.specs.Files.{Files, BothTold}
 use Rattle.name_core.specs.declared.change.Record.{Record}
 use Rattle.name_core.specs.Namespace.{after_changes}
 use Rattle.name_core.specs.Plan.{Planned, Recorded}
-use Rattle.name_core.specs.RecordText.{record_text}
-use Rattle.name_core.specs.RecordReading.{record_of}
+use Rattle.records.specs.RecordReading.{record_of}
 use Rattle.name_core.proofs.PlanLemmas.{fold-push}
 use Rattle.meta_log.specs.LogText.{segment_name, ChangesOnly}
 use Rattle.meta_log.specs.Records.{ReadsAs}
@@ -20,9 +19,9 @@ use Rattle.weed_command.specs.declared.plain_filer.PlainFiler.{PlainFiler}
 use Rattle.weed_command.specs.declared.plain_filer.MakeFault.{MakeFault}
 use Rattle.weed_command.specs.declared.plain_filer.MakeFault.TheVariants as fault
 
--- A text of a record that reads back reads as it.
-pub reads_back : (made : Record) (text : List ℕ) → text ≡ record_text made → ReadsAs (record_text made) made → ReadsAs text made
-reads_back made text written read = ap record_of written ∙ read
+-- The same text reads as the same record.
+pub reads_back : (made : Record) (text written : List ℕ) → text ≡ written → ReadsAs written made → ReadsAs text made
+reads_back made text written same read = ap record_of same ∙ read
 
 -- What a step makes of a filer with any records, by its plan
 abbrev pub MakesAny : (List Record → Planned) → Option Files → Option Files → PlainFiler → PlainFiler → Result (Unit {0}) MakeFault → Type 0

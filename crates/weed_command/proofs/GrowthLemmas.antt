@@ -3,7 +3,7 @@
 use Rattle.std.proofs.Common.{◌≡◌, ◌∙◌, ℕ, List, [], ◌∷◌, ◌++◌, map, Option, Some, None, refl, sym, ap, subst, inl, inr, append_assoc, append-nil}
 use Rattle.weed_base.specs.Files.{Files, BothTold}
 use Rattle.name_core.specs.declared.change.Record.{Record}
-use Rattle.name_core.specs.RecordText.{record_text}
+use Rattle.records.specs.RecordText.{record_text}
 use Rattle.meta_log.specs.LogText.{segment_name, ChangesOnly, IsLogText}
 use Rattle.meta_log.specs.Held.{TellsText, TellsEither}
 use Rattle.meta_log.specs.Images.{IsMadeFrom}

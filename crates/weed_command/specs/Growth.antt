@@ -2,7 +2,7 @@
 use Rattle.std.specs.Prelude.{ℕ, List, ◌++◌, map}
 use Rattle.weed_base.specs.Files.{Files}
 use Rattle.name_core.specs.declared.change.Record.{Record}
-use Rattle.name_core.specs.RecordText.{record_text}
+use Rattle.records.specs.RecordText.{record_text}
 use Rattle.meta_log.specs.LogText.{IsLogText}
 use Rattle.meta_log.specs.Making.{LeavesOthers}
 use Rattle.meta_log.specs.declared.stem.Stem.TheVariants.{Log}

@@ -2,12 +2,14 @@ ghost use Rattle.std.specs.Prelude.{◌≡◌, ◌≤◌, ◌<◌, ◌+◌, ◌�
 ghost use Rattle.weed_base.specs.Told.{IsCauseOf};
 ghost use Rattle.weed_base.specs.Files.{BothTold, Files};
 ghost use Rattle.name_core.specs.declared.change.Record.{Record};
-ghost use Rattle.name_core.specs.RecordText.{record_text, CanBeWritten};
+ghost use Rattle.records.specs.RecordText.{record_text};
+ghost use Rattle.name_core.specs.RecordText.{CanBeWritten};
 
 use crate::name_table::NameTable;
 use crate::replay::replay;
 use meta_log::{GateText, LogFault, MetaLog};
 use name_core::{Command, PlanFault, Record, Refusal, plan};
+use records::write_record;
 use std::alloc::{AllocError, AllocFailed, Global};
 use thiserror::Error;
 use weed_base::{Disk, Failed, Path};
@@ -146,7 +148,6 @@ impl PlainFiler {
     ) -> Result<(), MakeFault>
         requires held { (records : List Record) × HoldsFiler (D.files disk.old) self.old records }
         requires writable { CanBeWritten planned }
-        requires read_back { ReadsAs (record_text planned) planned }
         requires short { length (record_text planned) ≤ 67108864 }
         requires later { (front_of (log_of self.old)).time < planned.time }
         ensures made { IfSome (D.files disk.old) (λ files. (records : List Record) → IsFiled files self.old records
@@ -161,7 +162,7 @@ impl PlainFiler {
         ensures calls { D.tick disk.new ≤ D.tick disk.old + 4 }
         ensures uncalled { IfErr result (λ fault. (fault ≡ MakeFault.DiskFault) ⊎ (D.tick disk.new ≡ D.tick disk.old)) }
     {
-        let text = planned.write(alloc)?;
+        let text = write_record(alloc, &planned)?;
         let ready = GateText::make(alloc, text.as_slice())?;
         self.names.reserve(planned.changes.as_slice().len())?;
         self.log.append(disk, planned.time, &ready)?;

@@ -17,7 +17,8 @@ ghost use Rattle.weed_command.specs.Replay.{Takes, TakesMany, AreUnreadable, Hol
 
 use crate::name_table::NameTable;
 use meta_log::{LogFault, MetaLog, Place};
-use name_core::{Record, RecordFault};
+use name_core::Record;
+use records::{RecordFault, read_record};
 use std::alloc::{AllocError, Global};
 use weed_base::{Disk, FileName, LogText};
 
@@ -137,7 +138,7 @@ fn record_of(alloc: Global, text: &[u8]) -> Result<Option<Record>, AllocError>
         (λ known. MatchOption known (IsNoRecord text.now) (λ known. ReadsAs text.now known × CanBeWritten known))
         (λ _. IsRecord text.now) }
 {
-    match Record::read(alloc, text) {
+    match read_record(alloc, text) {
         Ok(known) => Ok(Some(known)),
         Err(RecordFault::Memory) => Err(AllocError),
         Err(RecordFault::Wire(_) | RecordFault::BadRecord) => Ok(None),

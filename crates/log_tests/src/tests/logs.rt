@@ -19,7 +19,7 @@ fn add<D: Disk>(alloc: Global, meta: &mut MetaLog, disk: &mut D, time: u8) -> Re
     ensures { IfOk result (λ taken. OnTrue taken (HoldsMetaLog (D.files disk.new) meta.new)) }
 {
     let text = made_at(time);
-    let known = name_core::Record::read(alloc, &text).map_err(|_| "no record")?;
+    let known = records::read_record(alloc, &text).map_err(|_| "no record")?;
     if known.time <= meta.front().time {
         return Err("a time that doesn't rise".into());
     }

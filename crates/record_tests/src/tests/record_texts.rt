@@ -1,6 +1,5 @@
 use super::*;
-use name_core::RecordFault;
-use records::{read_record, record_length, write_record};
+use records::{RecordFault, read_record, record_length, write_record};
 
 /// The text of the record that makes `/a` and `/a/b` five seconds after 1970.
 const FIRST_RECORD: [u8; 53] = [

@@ -1,6 +1,5 @@
 use Rattle.std.proofs.Common.{◌∙◌, ap, sym, subst}
-use Rattle.name_core.specs.RecordReading.{FindsMeant}
-use Rattle.records.specs.Events.{place_of, put_of, FindsChanges}
+use Rattle.records.specs.Events.{FindsMeant, place_of, put_of, FindsChanges}
 use Rattle.records.proofs.ReadingLoop.{means_put, means_drop, means_both}
 use Rattle.records.proofs.meaning.changes_of.Goals as goal
 

@@ -1,7 +1,6 @@
 use Rattle.std.proofs.Common.{ap, sym, subst, ◌∙◌}
 use Rattle.std.specs.Prelude.{option_map, option_and_then}
-use Rattle.name_core.specs.RecordReading.{FindsMeant}
-use Rattle.records.specs.Events.{moved_to, FindsChanges}
+use Rattle.records.specs.Events.{FindsMeant, moved_to, FindsChanges}
 use Rattle.records.proofs.ReadingLoop.{some_of, lost_finds}
 use Rattle.records.proofs.meaning.drop_and_put.Goals as goal
 

@@ -1,4 +1,4 @@
-use Rattle.name_core.proofs.ReadPaths.{read_in_is}
+use Rattle.records.proofs.ReadPaths.{read_in_is}
 use Rattle.records.proofs.meaning.path_at.Goals as goal
 
 pub returns : goal.returns

@@ -1,7 +1,7 @@
 use Rattle.std.proofs.Common.{◌∷◌, [], ap, sym, subst, ◌∙◌}
 use Rattle.std.specs.Prelude.{option_map}
 use Rattle.name_core.specs.declared.change.Change.{Change}
-use Rattle.name_core.specs.RecordReading.{FindsMeant}
+use Rattle.records.specs.Events.{FindsMeant}
 use Rattle.records.proofs.ReadingLoop.{some_of}
 use Rattle.records.proofs.meaning.put_alone.Goals as goal
 

@@ -1,7 +1,6 @@
 use Rattle.std.proofs.Common.{Some, ap, sym, subst, ◌∙◌}
 use Rattle.std.specs.Prelude.{option_map}
-use Rattle.name_core.specs.RecordReading.{FindsMeant}
-use Rattle.records.specs.Events.{moved_to}
+use Rattle.records.specs.Events.{FindsMeant, moved_to}
 use Rattle.records.proofs.ReadingLoop.{some_of, moved_some}
 use Rattle.records.proofs.meaning.put_behind.Goals as goal
 

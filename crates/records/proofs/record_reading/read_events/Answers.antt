@@ -3,9 +3,8 @@ use Rattle.std.proofs.lemmas.Result.{err_from_is_err_and}
 use Rattle.proto_wire.specs.Field.{field_text}
 use Rattle.proto_wire.specs.Reading.{fields_left, TakesFirst}
 use Rattle.entry.proofs.Collecting.{first_left}
-use Rattle.name_core.specs.RecordReading.{ReadsRecord}
+use Rattle.records.specs.RecordReading.{ReadsRecord, record_with_events}
 use Rattle.records.specs.Events.{both, event_means}
-use Rattle.records.specs.RecordReading.{record_with_events}
 use Rattle.records.proofs.ReadingLoop.{FindsSo, reads_none, reads_other, reads_event, reads_fault, reads_all}
 use Rattle.records.proofs.record_reading.read_events.Goals as goal
 

@@ -1,7 +1,7 @@
 use Rattle.std.proofs.Common.{◌≡◌, ◌≢◌, ◌-◌, length, take, sym, refl, ap, ◌∙◌, subst, arith}
 use Rattle.weed_base.specs.Path.{text_of}
 use Rattle.name_core.specs.RecordText.{directory_of}
-use Rattle.name_core.proofs.PathTexts.{EndsIn, EndsIn-last, only_root_lacks, length-text, directory_at_front, directory_before_slash}
+use Rattle.records.proofs.PathTexts.{EndsIn, EndsIn-last, only_root_lacks, length-text, directory_at_front, directory_before_slash}
 use Rattle.records.proofs.record_writing.directory_text.Goals as goal
 
 -- The root is its own directory.

@@ -5,14 +5,13 @@ use Rattle.name_core.specs.Log.{after_record}
 use Rattle.meta_log.specs.Kept.{front_of}
 use Rattle.meta_log.specs.declared.front.Front.{Front}
 use Rattle.filer.specs.Plans.{front_behind}
-use Rattle.name_core.specs.RecordReading.{record_of}
 use Rattle.meta_log.specs.Records.{ReadsAs}
 use Rattle.filer.proofs.Applying.{of_err, of_ok, either, settles, tears, strands, publishes, more_held, rest_held}
 use Rattle.filer.proofs.state.FilerState.add.Goals as goal
 
 pub returns-then-is_err-clause-added : goal.returns-then-is_err-clause-added
 returns-then-is_err-clause-added g c =
-    let reads : ReadsAs c.in_ok-ready.ready c.args.made = ap record_of c.in_ok-ready.ensures.ready ∙ c.requires.read_back in
+    let reads : ReadsAs c.in_ok-ready.ready c.args.made = c.in_ok-ready.ensures.reads in
     let bad : is_err c.append.result ≡ true = cc (c.is_err.ensures.value, c.if-is_err.true) in
     tears g.D.Disk g.K.Names.map c.args.made c.in_ok-ready.ready c.args.self.now c.prepare.new.self c.args.disk.now c.append.new.disk c.prepare.ensures.log reads _
     c.append.ensures.others (of_err _ c.append.result bad c.append.ensures.failed)
@@ -21,7 +20,7 @@ returns-then-is_err-clause-added g c =
 
 pub returns-then-is_err-2-clause-added : goal.returns-then-is_err-2-clause-added
 returns-then-is_err-2-clause-added g c =
-    let reads : ReadsAs c.in_ok-ready.ready c.args.made = ap record_of c.in_ok-ready.ensures.ready ∙ c.requires.read_back in
+    let reads : ReadsAs c.in_ok-ready.ready c.args.made = c.in_ok-ready.ensures.reads in
     let good : is_err c.append.result ≡ false = cc (c.is_err.ensures.value, c.if-is_err.false) in
     inr (strands g.D.Disk g.K.Names.map c.args.made c.in_ok-ready.ready c.args.self.now c.prepare.new.self c.args.disk.now c.append.new.disk c.prepare.ensures.log reads _
     c.append.ensures.others (of_ok _ c.append.result good c.append.ensures.appended)
@@ -31,7 +30,7 @@ returns-then-is_err-2-clause-added g c =
 
 pub returns-clause-added : goal.returns-clause-added
 returns-clause-added g c =
-    let reads : ReadsAs c.in_ok-ready.ready c.args.made = ap record_of c.in_ok-ready.ensures.ready ∙ c.requires.read_back in
+    let reads : ReadsAs c.in_ok-ready.ready c.args.made = c.in_ok-ready.ensures.reads in
     let good : is_err c.append.result ≡ false = cc (c.is_err.ensures.value, c.if-is_err.false) in
     let done : is_err c.commit.result ≡ false = cc (c.is_err-2.ensures.value, c.if-is_err-2.false) in
     let front : c.front-self.result ≡ front_behind c.args.made c.args.self.now.published =
@@ -47,7 +46,7 @@ returns-clause-added g c =
 
 pub returns-clause-held : goal.returns-clause-held
 returns-clause-held g c = λ _.
-    let reads : ReadsAs c.in_ok-ready.ready c.args.made = ap record_of c.in_ok-ready.ensures.ready ∙ c.requires.read_back in
+    let reads : ReadsAs c.in_ok-ready.ready c.args.made = c.in_ok-ready.ensures.reads in
     let good : is_err c.append.result ≡ false = cc (c.is_err.ensures.value, c.if-is_err.false) in
     let done : is_err c.commit.result ≡ false = cc (c.is_err-2.ensures.value, c.if-is_err-2.false) in
     let front : c.front-self.result ≡ front_behind c.args.made c.args.self.now.published =

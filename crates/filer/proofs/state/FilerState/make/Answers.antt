@@ -3,6 +3,7 @@ use Rattle.std.specs.Prelude.{IfSome}
 use Rattle.name_core.specs.declared.change.Record.{Record}
 use Rattle.name_core.specs.Plan.{Plans, plan_of}
 use Rattle.std.proofs.lemmas.Result.{err_from_is_err_and}
+use Rattle.records.proofs.RecordSizes.{directories_are_short}
 use Rattle.filer.proofs.Applying.{added, plan_failed, rest_held}
 use Rattle.filer.proofs.state.FilerState.make.Goals as goal
 
@@ -28,3 +29,6 @@ returns-in-Some-clause-applied g c =
     let planned = subst (λ (found : Option Record). IfSome names (λ told. Plans (plan_of told c.args.command.now c.args.clock last) (Ok found))) c.in-Some.is c.in_ok-made.ensures.planned in
     added g.D.Disk g.K.Names.map c.args.self.now _ c.add.new.self c.args.disk.now c.add.new.disk refl c.plan.ensures.map refl refl
     names c.args.command.now c.args.clock last c.in-Some.made c.add.result planned c.add.ensures.added
+
+pub add-requires-clause-short : goal.add-requires-clause-short
+add-requires-clause-short g c = directories_are_short c.in-Some.made (rw c.in-Some.is at c.in_ok-made.ensures.directories)

@@ -1,9 +1,9 @@
 use Rattle.std.proofs.Common.{ap, ◌∙◌}
 use Rattle.proto_wire.specs.Field.{value_text, field_text}
-use Rattle.name_core.specs.Messages.{event_fields_in}
-use Rattle.name_core.specs.Steps.{event_with_text}
+use Rattle.records.specs.Messages.{event_fields_in}
+use Rattle.records.specs.Steps.{event_with_text}
 use Rattle.entry.proofs.MessageLemmas.{field_with, takes, is_no_text}
-use Rattle.name_core.proofs.MessageLemmas.{event_text, event_stays}
+use Rattle.records.proofs.MessageLemmas.{event_text, event_stays}
 use Rattle.records.proofs.event_message.EventFieldsMessage.take.Goals as goal
 
 pub returns-in-Bytes : goal.returns-in-Bytes

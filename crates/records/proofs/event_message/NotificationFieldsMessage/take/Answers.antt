@@ -1,9 +1,9 @@
 use Rattle.std.proofs.Common.{ap, ◌∙◌}
 use Rattle.proto_wire.specs.Field.{value_text, field_text}
-use Rattle.name_core.specs.Messages.{notification_in}
-use Rattle.name_core.specs.Steps.{notification_with_text}
+use Rattle.records.specs.Messages.{notification_in}
+use Rattle.records.specs.Steps.{notification_with_text}
 use Rattle.entry.proofs.MessageLemmas.{field_with, takes, is_no_text}
-use Rattle.name_core.proofs.MessageLemmas.{notification_text, notification_stays}
+use Rattle.records.proofs.MessageLemmas.{notification_text, notification_stays}
 use Rattle.records.proofs.event_message.NotificationFieldsMessage.take.Goals as goal
 
 pub returns-in-Bytes : goal.returns-in-Bytes

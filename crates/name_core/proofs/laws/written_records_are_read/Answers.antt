@@ -1,5 +1,0 @@
-use Rattle.name_core.proofs.RoundTrip.{written_is_read}
-use Rattle.name_core.proofs.laws.written_records_are_read.Goals as goal
-
-pub returns : goal.returns
-returns c = written_is_read
