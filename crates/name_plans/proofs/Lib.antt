@@ -5,3 +5,4 @@ pub mod MovedTexts
 pub mod PageLoop
 pub mod Drops
 pub mod Ways
+pub mod Keeps

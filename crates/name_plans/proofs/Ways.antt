@@ -15,7 +15,7 @@ use Rattle.name_core.specs.declared.change.Change.TheVariants.{Put, Drop}
 use Rattle.name_core.specs.Namespace.{Namespace, step, is_within, after_changes}
 use Rattle.name_core.specs.Plan.{new_directory, prefixes_from, prefixes, is_file, first_file, missing, puts}
 use Rattle.name_core.specs.RecordText.{directory_of, name_of}
-use Rattle.name_core.proofs.PathTexts.{directory_and_name}
+use Rattle.records.proofs.PathTexts.{directory_and_name}
 use Rattle.name_core.proofs.Paths.{filled-append}
 use Rattle.name_plans.specs.Makeable.{AreMakeable}
 use Rattle.name_plans.specs.Placing.{drop_of, cleared, has_already, replacing, way_made}
@@ -61,7 +61,7 @@ missing_within file names top (x ∷ a) within =
     (gone file path names (below_within file top x within))
     ∙ ap (λ l. path ∷ l) (missing_within file names path a (below_within file top x within))
 
-itself_within : (path : List (List ℕ)) → is_within path path ≡ true
+pub itself_within : (path : List (List ℕ)) → is_within path path ≡ true
 itself_within path = subst (λ p. is_within path p ≡ true) (append-nil path) (join_within path [])
 
 -- A file at a front of a path, with no file above it

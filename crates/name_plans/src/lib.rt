@@ -13,7 +13,9 @@ mod way;
 mod writing;
 
 pub use command::{Command, CommandChunks, Piece};
-pub use laws::removals_keep_names_well_formed;
+pub use laws::{
+    places_keep_names_well_formed, removals_keep_names_well_formed, writes_keep_names_well_formed,
+};
 pub use moving::plan_move;
 pub use placing::plan_place;
 pub use planning::plan;
