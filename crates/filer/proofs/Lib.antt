@@ -1,1 +1,4 @@
 pub mod Applying
+pub mod Takings
+pub mod Tails
+pub mod Openings

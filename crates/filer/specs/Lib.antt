@@ -4,3 +4,6 @@ pub mod Looks
 pub mod State
 pub mod Applied
 pub mod Filer
+pub mod Taken
+pub mod Tail
+pub mod Opened

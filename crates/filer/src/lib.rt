@@ -4,9 +4,12 @@
 mod fault;
 mod filer;
 mod listed;
+mod opening;
 mod receipt;
 mod room;
 mod state;
+mod tail;
+mod taking;
 
 pub use fault::{ApplyFault, LookFault};
 pub use filer::Filer;
