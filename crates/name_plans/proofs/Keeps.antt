@@ -45,10 +45,10 @@ pub no_file_above : (file : Option (List (List ℕ))) (changes made : List Chang
 no_file_above None changes made e = (refl, cc)
 no_file_above (Some file) changes made e = cc
 
-same_changes : (x y : List Change) → ◌≡◌ {A = Result (List Change) Refusal} (Ok x) (Ok y) → x ≡ y
+pub same_changes : (x y : List Change) → ◌≡◌ {A = Result (List Change) Refusal} (Ok x) (Ok y) → x ≡ y
 same_changes x y e = cc
 
-not_root : (path : List (List ℕ)) → is_root path ≡ false → path ≢ []
+pub not_root : (path : List (List ℕ)) → is_root path ≡ false → path ≢ []
 not_root path is none = eqb-false (length path) 0 is (ap length none)
 
 not_file_is_directory : (kind : Kind) → is_file_kind kind ≡ false → kind ≡ Directory
@@ -59,7 +59,7 @@ find_none : (b : Bool) (path : List (List ℕ)) (rest : Option (List (List ℕ))
 find_none true path rest e = cc
 find_none false path rest e = (refl, e)
 
-found_or_not : (o : Option Entry) → (o ≡ None) ⊎ ((entry : Entry) × (o ≡ Some entry))
+pub found_or_not : (o : Option Entry) → (o ≡ None) ⊎ ((entry : Entry) × (o ≡ Some entry))
 found_or_not None = inl refl
 found_or_not (Some entry) = inr (entry, refl)
 

@@ -6,3 +6,5 @@ pub mod PageLoop
 pub mod Drops
 pub mod Ways
 pub mod Keeps
+pub mod Moves
+pub mod Plans

@@ -32,11 +32,11 @@ use Rattle.name_core.specs.RecordText.{HasValidEntry}
 use Rattle.entry.specs.Entry.{IsValid}
 use Rattle.name_plans.proofs.Makes.{makeable-append}
 
-front_so : (a b : Bool) → (a && b) ≡ true → a ≡ true
+pub front_so : (a b : Bool) → (a && b) ≡ true → a ≡ true
 front_so true b e = refl
 front_so false b e = e
 
-back_so : (a b : Bool) → (a && b) ≡ true → b ≡ true
+pub back_so : (a b : Bool) → (a && b) ≡ true → b ≡ true
 back_so true b e = e
 back_so false b e = cc
 
@@ -44,7 +44,7 @@ so : (b : Bool) → T b → b ≡ true
 so true t = refl
 so false t = absurd t
 
-is_less : (o : Ordering) → is_lt o ≡ true → o ≡ Less
+pub is_less : (o : Ordering) → is_lt o ≡ true → o ≡ Less
 is_less Less e = refl
 is_less Equal e = cc
 is_less Greater e = cc
@@ -57,7 +57,7 @@ is_equal Greater e = cc
 abbrev past : List (List ℕ) → Named → Bool
 past after item = is_past (Some after) item.0
 
-abbrev Rises : List Named → Type 0
+abbrev pub Rises : List Named → Type 0
 Rises items = is_sorted path_cmp items ≡ true
 
 -- What passes a test and another is what passes the other of what passes the one.
@@ -78,11 +78,11 @@ filter_twice a b c (x ∷ items) =
 below_past : (names : Namespace) (from after : List (List ℕ)) → filter (λ item. is_below_past from (Some after) item.0) (entries names) ≡ filter (past after) (below names from)
 below_past names from after = filter_twice (λ (item : Named). is_within from item.0) (λ item. nat_lt (length from) (length item.0)) (past after) (entries names)
 
-below_rises : (names : Namespace) (from : List (List ℕ)) → Rises (below names from)
+pub below_rises : (names : Namespace) (from : List (List ℕ)) → Rises (below names from)
 below_rises names from = so _ (is_sorted-where_key path_cmp (λ path. is_below_past from None path) (entries names) (entries_sorted names))
 
 -- What is below a path is past it.
-below_is_past : (top path : List (List ℕ)) → is_within top path ≡ true → length top < length path → path_cmp top path ≡ Less
+pub below_is_past : (top path : List (List ℕ)) → is_within top path ≡ true → length top < length path → path_cmp top path ≡ Less
 below_is_past [] [] within longer = absurd (omega arith)
 below_is_past [] (y ∷ ys) within longer = refl
 below_is_past (t ∷ ts) [] within longer = absurd (omega arith)

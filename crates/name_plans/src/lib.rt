@@ -14,7 +14,8 @@ mod writing;
 
 pub use command::{Command, CommandChunks, Piece};
 pub use laws::{
-    places_keep_names_well_formed, removals_keep_names_well_formed, writes_keep_names_well_formed,
+    moves_keep_names_well_formed, places_keep_names_well_formed, plans_keep_names_well_formed,
+    removals_keep_names_well_formed, writes_keep_names_well_formed,
 };
 pub use moving::plan_move;
 pub use placing::plan_place;
