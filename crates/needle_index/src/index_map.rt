@@ -1,6 +1,8 @@
 ghost use Rattle.std.specs.Prelude.{◌≡◌, ◌≢◌, ◌+◌, ◌-◌, ◌%◌, ◌^◌, ◌<◌, ◌≤◌, ◌↔◌, None, IsTrue, length, IfErr, IfOk, IsOk, OnOk, OnErr};
 ghost use Rattle.std.specs.FinMap.{empty, get, insert, len, remove};
+ghost use Rattle.std.specs.List.Sorted.{IsNonDecreasingBy};
 ghost use Rattle.needle_index.specs.Bytes.{live, padded_in};
+ghost use Rattle.needle_index.specs.Order.{AreEntriesOf};
 ghost use Rattle.needle_index.specs.Text.{IsCauseIn, entered, entered_all, spots_of};
 
 use crate::entry::IndexEntry;
@@ -102,6 +104,16 @@ impl IndexMap {
         ensures { result ≡ get self.now.spots key }
     {
         self.slots.get(key)
+    }
+
+    /// The entries of all spots, by their offsets.
+    pub fn in_order(&self, alloc: Global) -> Result<Vec<IndexEntry>, AllocError>
+        ensures entries { IfOk result (λ entries. AreEntriesOf self.now.spots entries.items) }
+        ensures order { IfOk result (λ entries. IsNonDecreasingBy (λ entry. entry.offset) entries.items) }
+    {
+        let mut entries = self.slots.entries(alloc)?;
+        entries.sort_by_key(|entry| entry.offset)?;
+        Ok(entries)
     }
 
     /// How many keys have a spot. Takes no memory.

@@ -1,6 +1,10 @@
-ghost use Rattle.std.specs.Prelude.{◌≡◌, ◌+◌, ◌<◌, ◌≤◌, ◌↔◌, None, IsTrue, IfOk, IsOk, OnOk, OnErr};
+ghost use Rattle.std.specs.Prelude.{◌≡◌, ◌+◌, ◌<◌, ◌≤◌, ◌↔◌, None, IsTrue, IfOk, IsOk, OnOk, OnErr, map, nat_eq};
 ghost use Rattle.std.specs.FinMap.{empty, get, insert, len, remove};
+ghost use Rattle.std.specs.List.{IsDistinct};
+ghost use Rattle.std.specs.Map.{keys_of};
+ghost use Rattle.needle_index.specs.Order.{AreEntriesOf, entry_with};
 
+use crate::entry::IndexEntry;
 use crate::spot::Spot;
 use std::alloc::{AllocError, Global};
 use std::collections::HashMap;
@@ -22,6 +26,22 @@ impl Model for Slots {
     ghost coded = { index_code };
 
     ghost view = { λ slots. record { spots = from_entries slots.map.entries; spare = spare slots.map } };
+}
+
+/// The entries of spots and their keys, one by one.
+fn entries_in(alloc: Global, spots: &HashMap<u64, Spot>) -> Result<Vec<IndexEntry>, AllocError>
+    ensures entries { IfOk result (λ entries. entries.items ≡ map entry_with spots.now.entries) }
+    ensures apart { IsDistinct nat_eq (keys_of spots.now.entries) }
+{
+    let mut entries = Vec::with_capacity(alloc, spots.len())?;
+    for (key, spot) in spots {
+        entries.push(IndexEntry {
+            key: *key,
+            offset: spot.offset,
+            size: spot.size,
+        })?;
+    }
+    Ok(entries)
 }
 
 impl Slots {
@@ -46,6 +66,13 @@ impl Slots {
         ensures { result ≡ len self.now.spots }
     {
         self.map.len()
+    }
+
+    /// The entries of all spots, in some order.
+    pub fn entries(&self, alloc: Global) -> Result<Vec<IndexEntry>, AllocError>
+        ensures { IfOk result (λ entries. AreEntriesOf self.now.spots entries.items) }
+    {
+        entries_in(alloc, &self.map)
     }
 
     /// Whether the other has the same spots. Takes no memory.
