@@ -14,15 +14,15 @@ use Rattle.needle.specs.declared.version.Version.{Version}
 use Rattle.needle.proofs.Followed.{read_whole}
 use Rattle.needle.proofs.Verdicts.{begun_places}
 use Rattle.needle_index.specs.declared.spot.Spot.{Spot}
-use Rattle.volume.specs.Contents.{contents_of}
-use Rattle.volume.specs.FileNames.{name_of}
+use Rattle.volume_items.specs.Contents.{contents_of}
+use Rattle.volume_items.specs.FileNames.{name_of}
 use Rattle.volume.specs.Holds.{Holds}
-use Rattle.volume.specs.Spots.{Leads}
+use Rattle.volume_items.specs.Spots.{Leads}
 use Rattle.volume.specs.Writes.{cookie_in}
-use Rattle.volume.specs.declared.file_names.Part.TheVariants.{Items}
+use Rattle.volume_items.specs.declared.file_names.Part.TheVariants.{Items}
 use Rattle.volume.specs.declared.held.Volume.{Volume}
 use Rattle.volume.proofs.Found.{led, told_none}
-use Rattle.volume.proofs.Judged.{begun_there, least_taken}
+use Rattle.volume_items.proofs.Judged.{begun_there, least_taken}
 
 no_cookie : (held : Option Needle) → held ≡ None → None ≡ option_map (λ needle. needle.cookie) held
 no_cookie held is = subst (λ o. None ≡ option_map (λ needle. needle.cookie) o) (sym is) refl

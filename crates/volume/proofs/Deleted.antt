@@ -5,12 +5,12 @@ use Rattle.std.specs.FinMap.{get}
 use Rattle.weed_base.specs.Files.{Files}
 use Rattle.needle.specs.declared.item.Needle.{Needle}
 use Rattle.needle.specs.declared.item.ReadItem.{ReadItem}
-use Rattle.volume.specs.Contents.{contents_of}
+use Rattle.volume_items.specs.Contents.{contents_of}
 use Rattle.volume.specs.Deletes.{DeletesFrom, DeletesOf, DeletionAnswers}
 use Rattle.volume.specs.Holds.{Holds}
 use Rattle.volume.specs.Reads.{ReadAnswers, ReadsFrom}
-use Rattle.volume.specs.declared.fault.VolumeFault.{VolumeFault}
-use Rattle.volume.specs.declared.fault.VolumeFault.TheVariants.{DiskFault, Broken, AlreadyThere, NotThere, BadSuper, NotHeld, WrongCookie, EmptyData, TooLarge, VolumeFull, ReadOnly, NoVacuum, InVacuum, RevisionAtEnd, Damaged, Memory}
+use Rattle.volume_items.specs.declared.fault.VolumeFault.{VolumeFault}
+use Rattle.volume_items.specs.declared.fault.VolumeFault.TheVariants.{DiskFault, Broken, AlreadyThere, NotThere, BadSuper, NotHeld, WrongCookie, EmptyData, TooLarge, VolumeFull, ReadOnly, NoVacuum, InVacuum, RevisionAtEnd, Damaged, Memory}
 use Rattle.volume.specs.declared.held.Volume.{Volume}
 
 -- The needle that was read is the one that the key has.

@@ -23,17 +23,17 @@ use Rattle.needle.specs.Reading.{read_at}
 use Rattle.needle.proofs.Followed.{read_whole, read_within}
 use Rattle.needle.proofs.Verdicts.{begun_places, read_at-truncated}
 use Rattle.needle_index.specs.declared.spot.Spot.{Spot}
-use Rattle.volume.specs.Contents.{contents_of}
+use Rattle.volume_items.specs.Contents.{contents_of}
 use Rattle.volume.specs.Holds.{Holds}
 use Rattle.volume.specs.Reads.{MayFailToRead, IsNeedleOf, IsNoItem, IsDamage, Gets, YieldsOr, TellsOf, ReadsFrom, YieldsAt, Yields, bytes_at}
-use Rattle.volume.specs.Spots.{IsAt, Leads}
-use Rattle.volume.specs.declared.fault.VolumeFault.{VolumeFault}
-use Rattle.volume.specs.declared.fault.VolumeFault.TheVariants.{DiskFault, Broken, AlreadyThere, NotThere, BadSuper, NotHeld, WrongCookie, EmptyData, TooLarge, VolumeFull, ReadOnly, NoVacuum, InVacuum, RevisionAtEnd, Damaged, Memory}
-use Rattle.volume.specs.declared.file_names.Part.TheVariants.{Items}
+use Rattle.volume_items.specs.Spots.{IsAt, Leads}
+use Rattle.volume_items.specs.declared.fault.VolumeFault.{VolumeFault}
+use Rattle.volume_items.specs.declared.fault.VolumeFault.TheVariants.{DiskFault, Broken, AlreadyThere, NotThere, BadSuper, NotHeld, WrongCookie, EmptyData, TooLarge, VolumeFull, ReadOnly, NoVacuum, InVacuum, RevisionAtEnd, Damaged, Memory}
+use Rattle.volume_items.specs.declared.file_names.Part.TheVariants.{Items}
 use Rattle.volume.specs.declared.held.Volume.{Volume}
-use Rattle.volume.specs.FileNames.{name_of}
-use Rattle.volume.proofs.Judged.{begun_there, least_taken}
-use Rattle.volume.proofs.Spots.{index_leads, taken_again}
+use Rattle.volume_items.specs.FileNames.{name_of}
+use Rattle.volume_items.proofs.Judged.{begun_there, least_taken}
+use Rattle.volume_items.proofs.Spots.{index_leads, taken_again}
 
 -- ---- what bytes tell of
 

@@ -6,18 +6,18 @@ use Rattle.weed_base.specs.Files.{Files, BothTold, IsThere}
 use Rattle.needle.specs.SuperBlock.{superblock_text}
 use Rattle.needle.specs.declared.item.Item.{Item}
 use Rattle.needle.specs.declared.item.ReadItem.{ReadItem}
-use Rattle.volume.specs.declared.fault.VolumeFault.{VolumeFault}
-use Rattle.volume.specs.declared.fault.VolumeFault.TheVariants.{DiskFault}
-use Rattle.volume.specs.declared.file_names.Part.TheVariants.{Items, Index, Sign}
+use Rattle.volume_items.specs.declared.fault.VolumeFault.{VolumeFault}
+use Rattle.volume_items.specs.declared.fault.VolumeFault.TheVariants.{DiskFault}
+use Rattle.volume_items.specs.declared.file_names.Part.TheVariants.{Items, Index, Sign}
 use Rattle.volume.specs.declared.held.Mode.{Mode}
 use Rattle.volume.specs.declared.held.Mode.TheVariants.{ReadWrite, ReadOnly}
 use Rattle.volume.specs.declared.held.Volume.{Volume}
 use Rattle.volume.specs.Appending.{HoldsMore, IsAsWas, read_of}
-use Rattle.volume.specs.Contents.{AreItems}
-use Rattle.volume.specs.FileNames.{name_of}
+use Rattle.volume_items.specs.Contents.{AreItems}
+use Rattle.volume_items.specs.FileNames.{name_of}
 use Rattle.volume.specs.Holds.{Holds, HoldsUnlessBroken, IsWritable}
 use Rattle.volume.specs.Writes.{Stays}
-use Rattle.volume.proofs.Judged.{never_true}
+use Rattle.volume_items.proofs.Judged.{never_true}
 
 writable_still : (mode : Mode) (old new : Volume) (files : Files) (text : List ℕ) → IsAsWas old new → IsWritable mode old files text → IsWritable mode new files text
 writable_still ReadOnly old new files text was writable = tt

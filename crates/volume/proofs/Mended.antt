@@ -3,14 +3,14 @@ use Rattle.std.proofs.Common.{◌≡◌, ℕ, List, [], sym, ap, subst, ◌∙�
 use Rattle.std.specs.Prelude.{IfSome, IfOk, unwrap_or}
 use Rattle.weed_base.specs.Files.{Files, content}
 use Rattle.needle.specs.declared.item.ReadItem.{ReadItem}
-use Rattle.volume.specs.declared.file_names.Part.TheVariants.{Items}
+use Rattle.volume_items.specs.declared.file_names.Part.TheVariants.{Items}
 use Rattle.volume.specs.declared.held.Volume.{Volume}
-use Rattle.volume.specs.Contents.{AreItems, index_of}
-use Rattle.volume.specs.FileNames.{name_of}
+use Rattle.volume_items.specs.Contents.{AreItems, index_of}
+use Rattle.volume_items.specs.FileNames.{name_of}
 use Rattle.volume.specs.Holds.{Holds}
-use Rattle.volume.specs.Opening.{StandsFor}
-use Rattle.volume.specs.Walk.{AreEntries}
-use Rattle.volume.proofs.Appended.{items_unique}
+use Rattle.volume_items.specs.Loading.{StandsFor}
+use Rattle.volume_items.specs.Walk.{AreEntries}
+use Rattle.volume_items.proofs.Appended.{items_unique}
 
 -- the items of a volume that is held, whatever list of them is read again
 entries_stand : (volume : Volume) (items : List ReadItem) (files : Files) (name entries : List ℕ) → name ≡ name_of volume.id Items → Holds volume items files

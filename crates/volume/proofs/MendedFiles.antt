@@ -11,19 +11,20 @@ use Rattle.needle.specs.declared.version.Version.{Version}
 use Rattle.needle.specs.Fields.{AreBytes}
 use Rattle.needle.specs.Reading.{read_at}
 use Rattle.needle.proofs.Followed.{read_whole, read_within}
-use Rattle.volume.specs.declared.file_names.Part.TheVariants.{Items, Index, Sign}
+use Rattle.volume_items.specs.declared.file_names.Part.TheVariants.{Items, Index, Sign}
 use Rattle.volume.specs.declared.held.Mode.TheVariants.{ReadWrite}
 use Rattle.volume.specs.declared.held.Volume.{Volume}
 use Rattle.volume.specs.declared.mending.IndexPlan.{IndexPlan}
 use Rattle.volume.specs.declared.open.Opened.{Opened}
-use Rattle.volume.specs.Contents.{AreItems, HoldsAt, end_of}
-use Rattle.volume.specs.Garbage.{Fit}
-use Rattle.volume.specs.FileNames.{name_of}
+use Rattle.volume_items.specs.Contents.{AreItems, HoldsAt, end_of}
+use Rattle.volume_items.specs.Garbage.{Fit}
+use Rattle.volume_items.specs.FileNames.{name_of}
 use Rattle.volume.specs.Holds.{Holds}
-use Rattle.volume.specs.Opening.{HasIndex, IsOpened, IsPlanned, IsRead, StandsFor, mended, reindexed, trimmed}
-use Rattle.volume.proofs.Appended.{end-least, none_past}
-use Rattle.volume.proofs.Created.{anew, differ, index_sign, items_index, items_sign}
-use Rattle.volume.proofs.Named.{get-insert_other, get-insert_same}
+use Rattle.volume_items.specs.Loading.{HasIndex, StandsFor}
+use Rattle.volume.specs.Opening.{IsOpened, IsPlanned, IsRead, mended, reindexed, trimmed}
+use Rattle.volume_items.proofs.Appended.{end-least, none_past}
+use Rattle.volume_items.proofs.Apart.{anew, differ, index_sign, items_index, items_sign}
+use Rattle.volume_items.proofs.Named.{get-insert_other, get-insert_same}
 
 -- ---- the items alone
 

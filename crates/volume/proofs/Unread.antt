@@ -5,10 +5,10 @@ use Rattle.std.proofs.lemmas.List.{take_all}
 use Rattle.weed_base.specs.Files.{Files, content, ReadsAt}
 use Rattle.needle.specs.declared.fault.NeedleFault.{NeedleFault}
 use Rattle.needle.specs.SuperBlock.{IsBlockRefused}
-use Rattle.volume.specs.declared.fault.VolumeFault.{VolumeFault}
-use Rattle.volume.specs.declared.fault.VolumeFault.TheVariants.{DiskFault, Broken, AlreadyThere, NotThere, BadSuper, NotHeld, WrongCookie, EmptyData, TooLarge, VolumeFull, ReadOnly, NoVacuum, InVacuum, RevisionAtEnd, Damaged, Memory}
-use Rattle.volume.specs.declared.file_names.Part.TheVariants.{Items}
-use Rattle.volume.specs.FileNames.{name_of}
+use Rattle.volume_items.specs.declared.fault.VolumeFault.{VolumeFault}
+use Rattle.volume_items.specs.declared.fault.VolumeFault.TheVariants.{DiskFault, Broken, AlreadyThere, NotThere, BadSuper, NotHeld, WrongCookie, EmptyData, TooLarge, VolumeFull, ReadOnly, NoVacuum, InVacuum, RevisionAtEnd, Damaged, Memory}
+use Rattle.volume_items.specs.declared.file_names.Part.TheVariants.{Items}
+use Rattle.volume_items.specs.FileNames.{name_of}
 use Rattle.volume.specs.Making.{IsVolumeThere}
 use Rattle.volume.specs.Opening.{IsBlockFault, IsUnread}
 

@@ -10,26 +10,11 @@ use Rattle.needle.specs.Item.{content as item_content}
 use Rattle.needle.specs.Layout.{padded}
 use Rattle.needle_index.specs.Text.{entered}
 use Rattle.needle_index.specs.declared.entry.IndexEntry.{IndexEntry}
-use Rattle.volume.specs.declared.file_names.Part.TheVariants.{Items, Index}
+use Rattle.volume_items.specs.declared.file_names.Part.TheVariants.{Items, Index}
 use Rattle.volume.specs.declared.held.Volume.{Volume}
-use Rattle.volume.specs.FileNames.{name_of}
+use Rattle.volume_items.specs.FileNames.{name_of}
+use Rattle.volume_items.specs.Growing.{KeepsFront}
 use Rattle.volume.specs.Holds.{Holds}
-use Rattle.volume.specs.Making.{ChangesOnly}
-
--- The file is there, and ends at this place.
-pub record EndsAt (name : List ℕ) (at : ℕ) (files : Files) : Type 0 where
-  pub text : List ℕ
-  pub there : get files name ≡ Some text
-  pub length_is : length text ≡ at
-
--- The file has grown by these bytes, and no other file has changed.
-pub record Appends (name piece : List ℕ) (old new : Files) : Type 0 where
-  pub there : get new name ≡ Some (content old name ++ piece)
-  pub others : ChangesOnly name old new
-
--- The first bytes of a file are as they were.
-abbrev pub KeepsFront : List ℕ → ℕ → Files → Files → Type 0
-KeepsFront name at old new = take at (content new name) ≡ take at (content old name)
 
 -- Of these files only what stands behind a volume's ends may have changed.
 pub record ChangesBehind (id end index_end : ℕ) (old new : Files) : Type 0 where

@@ -6,10 +6,10 @@ use Rattle.needle.specs.Layout.{padded}
 use Rattle.needle.specs.declared.item.Needle.{Needle}
 use Rattle.needle.specs.declared.item.ReadItem.{ReadItem}
 use Rattle.needle.specs.declared.version.Version.{Version}
-use Rattle.volume.specs.declared.fault.VolumeFault.{VolumeFault}
-use Rattle.volume.specs.declared.fault.VolumeFault.TheVariants.{DiskFault, Broken, ReadOnly as IsReadOnly, NotHeld, WrongCookie, VolumeFull, Damaged, Memory}
+use Rattle.volume_items.specs.declared.fault.VolumeFault.{VolumeFault}
+use Rattle.volume_items.specs.declared.fault.VolumeFault.TheVariants.{DiskFault, Broken, ReadOnly as IsReadOnly, NotHeld, WrongCookie, VolumeFull, Damaged, Memory}
 use Rattle.volume.specs.declared.held.Volume.{Volume}
-use Rattle.volume.specs.Contents.{contents_of, last_end}
+use Rattle.volume_items.specs.Contents.{contents_of, last_end}
 use Rattle.volume.specs.Holds.{Holds}
 use Rattle.volume.specs.Writes.{IsClosed, IsFull, IsOpen}
 

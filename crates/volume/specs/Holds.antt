@@ -6,12 +6,12 @@ use Rattle.needle.specs.SuperBlock.{superblock_text}
 use Rattle.needle.specs.declared.item.ReadItem.{ReadItem}
 use Rattle.needle.specs.Fields.{AreBytes}
 use Rattle.needle_index.specs.Text.{spots_of}
-use Rattle.volume.specs.declared.file_names.Part.TheVariants.{Items, Index, Sign}
+use Rattle.volume_items.specs.declared.file_names.Part.TheVariants.{Items, Index, Sign}
 use Rattle.volume.specs.declared.held.Mode.{Mode}
 use Rattle.volume.specs.declared.held.Mode.TheVariants.{ReadWrite, ReadOnly}
 use Rattle.volume.specs.declared.held.Volume.{Volume}
-use Rattle.volume.specs.Contents.{AreItems, end_of, index_of, greatest_of}
-use Rattle.volume.specs.FileNames.{name_of}
+use Rattle.volume_items.specs.Contents.{AreItems, end_of, index_of, greatest_of}
+use Rattle.volume_items.specs.FileNames.{name_of}
 
 -- The file of items is there: its superblock, and these items behind it.
 pub record HasItems (volume : Volume) (items : List ReadItem) (files : Files) (text : List ℕ) : Type 0 where

@@ -1,31 +1,19 @@
 -- How a volume is made, file by file.
-use Rattle.std.specs.Prelude.{◌≡◌, ◌≢◌, ℕ, List}
-use Rattle.std.specs.FinMap.{get, empty}
-use Rattle.weed_base.specs.Files.{Files, IsThere, made, removed, written}
+use Rattle.std.specs.Prelude.{◌≡◌, ℕ, List}
+use Rattle.std.specs.FinMap.{empty}
+use Rattle.weed_base.specs.Files.{Files, IsThere, made, removed}
 use Rattle.needle.specs.declared.placement.Placement.{Placement}
 use Rattle.needle.specs.declared.superblock.SuperBlock.{SuperBlock}
 use Rattle.needle.specs.declared.version.Version.TheVariants.{V3}
-use Rattle.volume.specs.declared.file_names.Part.{Part}
-use Rattle.volume.specs.declared.file_names.Part.TheVariants.{Items, Index, Sign}
+use Rattle.volume_items.specs.declared.file_names.Part.TheVariants.{Items, Index, Sign}
 use Rattle.volume.specs.declared.held.Mode.TheVariants.{ReadWrite}
 use Rattle.volume.specs.declared.held.Volume.{Volume}
-use Rattle.volume.specs.FileNames.{name_of}
+use Rattle.volume_items.specs.FileNames.{name_of}
+use Rattle.volume_items.specs.Changes.{made_with}
 
 -- The volume is there: its sign and its items are.
 abbrev pub IsVolumeThere : ℕ → Files → Type 0
 IsVolumeThere id files = IsThere (name_of id Items) files × IsThere (name_of id Sign) files
-
--- A file was made anew, with these bytes.
-abbrev pub made_with : List ℕ → List ℕ → Files → Files
-made_with name bytes files = written name 0 bytes (made name files)
-
--- Every file of another name is as it was.
-abbrev pub ChangesOnly : List ℕ → Files → Files → Type 0
-ChangesOnly name old new = (other : List ℕ) → other ≢ name → get new other ≡ get old other
-
--- Every file of another volume, and of no volume, is as it was.
-abbrev pub LeavesOthers : ℕ → Files → Files → Type 0
-LeavesOthers id old new = (other : List ℕ) → ((part : Part) → other ≢ name_of id part) → get new other ≡ get old other
 
 -- The superblock of a new volume.
 abbrev pub new_block : Placement → List ℕ → SuperBlock

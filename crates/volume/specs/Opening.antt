@@ -1,6 +1,6 @@
 -- How a volume is opened.
-use Rattle.std.specs.Prelude.{◌≡◌, ℕ, ◌<◌, ◌≤◌, ◌%◌, ◌⊎◌, List, length, take, Option, Some, None, IfSome, is_some, if◌then◌else◌, nat_lt, false}
-use Rattle.std.specs.FinMap.{empty, get}
+use Rattle.std.specs.Prelude.{◌≡◌, ℕ, ◌<◌, ◌≤◌, ◌⊎◌, List, length, take, Option, Some, None, IfSome, is_some, if◌then◌else◌, nat_lt, false}
+use Rattle.std.specs.FinMap.{get}
 use Rattle.weed_base.specs.Files.{Files, content, cut_to}
 use Rattle.needle.specs.declared.fault.NeedleFault.{NeedleFault}
 use Rattle.needle.specs.declared.fault.NeedleFault.TheVariants.{Truncated}
@@ -9,19 +9,20 @@ use Rattle.needle.specs.declared.item.ReadItem.{ReadItem}
 use Rattle.needle.specs.Fields.{AreBytes}
 use Rattle.needle.specs.SuperBlock.{IsBlockRefused, superblock_text}
 use Rattle.needle_index.specs.Index.{Spots}
-use Rattle.needle_index.specs.Text.{entered_all, spots_of}
-use Rattle.volume.specs.declared.fault.VolumeFault.{VolumeFault}
-use Rattle.volume.specs.declared.fault.VolumeFault.TheVariants.{DiskFault, NotThere, BadSuper, Memory}
-use Rattle.volume.specs.declared.file_names.Part.TheVariants.{Items, Index}
+use Rattle.volume_items.specs.declared.fault.VolumeFault.{VolumeFault}
+use Rattle.volume_items.specs.declared.fault.VolumeFault.TheVariants.{DiskFault, NotThere, BadSuper, Memory}
+use Rattle.volume_items.specs.declared.file_names.Part.TheVariants.{Items, Index}
 use Rattle.volume.specs.declared.held.Mode.{Mode}
 use Rattle.volume.specs.declared.held.Mode.TheVariants.{ReadOnly, ReadWrite}
 use Rattle.volume.specs.declared.held.Volume.{Volume}
 use Rattle.volume.specs.declared.mending.IndexPlan.{IndexPlan}
 use Rattle.volume.specs.declared.open.Opened.{Opened}
-use Rattle.volume.specs.Contents.{AreItems}
-use Rattle.volume.specs.FileNames.{name_of}
+use Rattle.volume_items.specs.Contents.{AreItems}
+use Rattle.volume_items.specs.FileNames.{name_of}
 use Rattle.volume.specs.Holds.{Holds}
-use Rattle.volume.specs.Making.{IsVolumeThere, made_with}
+use Rattle.volume.specs.Making.{IsVolumeThere}
+use Rattle.volume_items.specs.Changes.{made_with}
+use Rattle.volume_items.specs.Loading.{HasIndex, StandsFor}
 
 -- The text begins with this superblock.
 pub record BeginsWithBlock (text : List ℕ) (block : SuperBlock) : Type 0 where
@@ -31,21 +32,6 @@ pub record BeginsWithBlock (text : List ℕ) (block : SuperBlock) : Type 0 where
 -- The text begins with none, for this fault.
 abbrev pub HasNoBlock : List ℕ → NeedleFault → Type 0
 HasNoBlock text fault = ((length text < 8) × (fault ≡ Truncated)) ⊎ ((8 ≤ length text) × IsBlockRefused (take 8 text) fault)
-
--- A text of an index stands for this map.
-pub record StandsFor (spots : Spots) (text : List ℕ) : Type 0 where
-  pub whole : length text % 16 ≡ 0
-  pub same : spots_of text ≡ spots
-
--- An index file of this length stands for the map; or none does.
-abbrev pub HasIndex : Spots → List ℕ → Files → Option ℕ → Type 0
-HasIndex spots name files (Some len) = (text : List ℕ) × (get files name ≡ Some text) × (len ≡ length text) × StandsFor spots text
-HasIndex spots name files None = (text : List ℕ) → get files name ≡ Some text → StandsFor spots text → ⊥
-
--- So many bytes of a text were entered.
-pub record IsLoaded (text : List ℕ) (count : ℕ) (spots : Spots) : Type 0 where
-  pub whole : count % 16 ≡ 0
-  pub are : spots ≡ entered_all empty (take count text)
 
 -- A volume that was read from files: it holds these items, and may only be read.
 pub record IsRead (id : ℕ) (volume : Volume) (files : Files) : Type 0 where

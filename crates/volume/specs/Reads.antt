@@ -12,11 +12,11 @@ use Rattle.needle.specs.Fields.{eight_at, size_in}
 use Rattle.needle.specs.Layout.{padded}
 use Rattle.needle.specs.Reading.{read_at}
 use Rattle.needle_index.specs.declared.spot.Spot.{Spot}
-use Rattle.volume.specs.declared.fault.VolumeFault.{VolumeFault}
-use Rattle.volume.specs.declared.fault.VolumeFault.TheVariants.{DiskFault, Broken, NotHeld, WrongCookie, Damaged, Memory}
-use Rattle.volume.specs.declared.file_names.Part.TheVariants.{Items}
+use Rattle.volume_items.specs.declared.fault.VolumeFault.{VolumeFault}
+use Rattle.volume_items.specs.declared.fault.VolumeFault.TheVariants.{DiskFault, Broken, NotHeld, WrongCookie, Damaged, Memory}
+use Rattle.volume_items.specs.declared.file_names.Part.TheVariants.{Items}
 use Rattle.volume.specs.declared.held.Volume.{Volume}
-use Rattle.volume.specs.FileNames.{name_of}
+use Rattle.volume_items.specs.FileNames.{name_of}
 
 -- ---- what bytes say
 

@@ -8,13 +8,13 @@ use Rattle.needle.specs.declared.item.Item.TheVariants.{Live}
 use Rattle.needle.specs.declared.item.Needle.{Needle}
 use Rattle.needle.specs.declared.item.ReadItem.{ReadItem}
 use Rattle.needle.specs.Item.{content}
-use Rattle.volume.specs.declared.fault.VolumeFault.{VolumeFault}
-use Rattle.volume.specs.declared.fault.VolumeFault.TheVariants.{DiskFault, Broken, EmptyData, ReadOnly as IsReadOnly, TooLarge, VolumeFull, WrongCookie, Memory}
+use Rattle.volume_items.specs.declared.fault.VolumeFault.{VolumeFault}
+use Rattle.volume_items.specs.declared.fault.VolumeFault.TheVariants.{DiskFault, Broken, EmptyData, ReadOnly as IsReadOnly, TooLarge, VolumeFull, WrongCookie, Memory}
 use Rattle.volume.specs.declared.held.Mode.TheVariants.{ReadWrite, ReadOnly}
 use Rattle.volume.specs.declared.held.Volume.{Volume}
 use Rattle.volume.specs.declared.writing.Written.{Written}
 use Rattle.volume.specs.Appending.{IsAsWas, taken_by}
-use Rattle.volume.specs.Contents.{Contents, contents_of, last_end, most_data}
+use Rattle.volume_items.specs.Contents.{Contents, contents_of, last_end, most_data}
 use Rattle.volume.specs.Holds.{Holds}
 
 -- ---- the cases

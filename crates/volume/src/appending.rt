@@ -1,18 +1,19 @@
-ghost use Rattle.std.specs.Prelude.{◌≡◌, ◌+◌, ◌++◌, ◌<◌, ◌≤◌, ◌^◌, IfSome, OnErr, OnOk, length};
+ghost use Rattle.std.specs.Prelude.{◌≡◌, ◌+◌, ◌<◌, ◌≤◌, ◌^◌, IfSome, OnErr, OnOk};
 ghost use Rattle.weed_base.specs.Told.{HasCause};
 ghost use Rattle.weed_base.specs.Files.{BothTold};
 ghost use Rattle.needle.specs.Fields.{AreBytes};
 ghost use Rattle.needle_index.specs.Text.{entry_text};
-ghost use Rattle.volume.specs.Appending.{Appends, ChangesBehind, EndsAt, GrowBy, HasTakenIn, KeepsFront};
-ghost use Rattle.volume.specs.Garbage.{IsEntryOf};
+ghost use Rattle.volume_items.specs.Growing.{Appends, EndsAt, KeepsFront};
+ghost use Rattle.volume.specs.Appending.{ChangesBehind, GrowBy, HasTakenIn};
+ghost use Rattle.volume_items.specs.Garbage.{IsEntryOf};
 ghost use Rattle.volume.specs.Pieces.{joined};
-ghost use Rattle.volume.specs.Making.{ChangesOnly};
-ghost use Rattle.volume.specs.FileNames.{name_of};
-ghost use Rattle.volume.specs.declared.file_names.Part.TheVariants.{Items, Index};
+ghost use Rattle.volume_items.specs.Changes.{ChangesOnly};
+ghost use Rattle.volume_items.specs.FileNames.{name_of};
+ghost use Rattle.volume_items.specs.declared.file_names.Part.TheVariants.{Items, Index};
 
-use crate::file_names::{Part, file_name};
 use crate::held::Volume;
 use needle_index::IndexEntry;
+use volume_items::{Part, append_piece, file_name};
 use weed_base::{Disk, Failed, FileName};
 
 /// What an item is made of, one behind another.
@@ -21,26 +22,6 @@ pub(crate) struct Pieces<'a> {
     pub(crate) head: &'a [u8],
     pub(crate) body: &'a [u8],
     pub(crate) tail: &'a [u8],
-}
-
-/// Writes a piece behind a file's end.
-pub(crate) fn append_piece<D: Disk>(
-    disk: &mut D,
-    name: &FileName,
-    at: u64,
-    piece: &[u8],
-) -> Result<(), Failed>
-    requires { IfSome (D.files disk.old) (EndsAt name.now at) }
-    ensures done { OnOk result (BothTold (Appends name.now piece.now) (D.files disk.old) (D.files disk.new)) }
-    ensures ends { OnOk result (IfSome (D.files disk.new) (EndsAt name.now (at + length piece.now))) }
-    ensures fits { OnOk result (at + length piece.now < 2 ^ 63) }
-    ensures front { BothTold (KeepsFront name.now at) (D.files disk.old) (D.files disk.new) }
-    ensures others { BothTold (ChangesOnly name.now) (D.files disk.old) (D.files disk.new) }
-    ensures bytes { AreBytes piece.now }
-    ensures cause { HasCause (D.faults disk.old) (D.faults disk.new) result }
-    ensures beside { D.beside disk.new ≡ D.beside disk.old }
-{
-    disk.write_at(name, at, piece)
 }
 
 /// Writes the pieces of an item behind a file's end.

@@ -8,11 +8,11 @@ ghost use Rattle.volume.specs.Holds.{HoldsUnlessBroken};
 ghost use Rattle.volume.specs.Writes.{IsOpen, Leaves, Stays};
 
 use crate::appending::Pieces;
-use crate::fault::VolumeFault;
 use crate::held::Volume;
 use needle::DeletionText;
 use needle_index::IndexEntry;
 use std::alloc::Global;
+use volume_items::VolumeFault;
 use weed_base::Disk;
 
 impl Volume {

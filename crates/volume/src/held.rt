@@ -1,6 +1,6 @@
 ghost use Rattle.std.specs.Prelude.{◌≡◌};
 ghost use Rattle.needle_index.specs.Bytes.{live};
-ghost use Rattle.volume.specs.Garbage.{Fit, dead, permille};
+ghost use Rattle.volume_items.specs.Garbage.{Fit, dead, permille};
 
 use needle::SuperBlock;
 use needle_index::IndexMap;

@@ -5,18 +5,17 @@ ghost use Rattle.weed_base.specs.Files.{BothTold, content, MayBeNamed, IsThere};
 ghost use Rattle.weed_base.specs.DiskCalls.{Looks};
 ghost use Rattle.needle.specs.declared.item.ReadItem.{ReadItem};
 ghost use Rattle.volume.specs.Holds.{Holds};
-ghost use Rattle.volume.specs.declared.file_names.Part.TheVariants.{Items, Index};
-ghost use Rattle.volume.specs.FileNames.{name_of};
-ghost use Rattle.volume.specs.Making.{ChangesOnly, LeavesOthers};
-ghost use Rattle.volume.specs.Opening.{IsPlanned, StandsFor, mended, reindexed, trimmed};
+ghost use Rattle.volume_items.specs.declared.file_names.Part.TheVariants.{Items, Index};
+ghost use Rattle.volume_items.specs.FileNames.{name_of};
+ghost use Rattle.volume_items.specs.Changes.{ChangesOnly, LeavesOthers};
+ghost use Rattle.volume.specs.Opening.{IsPlanned, mended, reindexed, trimmed};
+ghost use Rattle.volume_items.specs.Loading.{StandsFor};
 
-use crate::create::make_with;
-use crate::fault::VolumeFault;
-use crate::file_names::{Part, file_name};
 use crate::held::Volume;
-use crate::index_text::{IndexText, index_text};
-use crate::loading::matching_index;
 use std::alloc::Global;
+use volume_items::{
+    IndexText, Part, VolumeFault, file_name, index_text, make_with, matching_index,
+};
 use weed_base::{Disk, Failed, FileName};
 
 /// What is to be done with an index file.

@@ -2,14 +2,14 @@ ghost use Rattle.std.specs.Prelude.{◌≡◌, ◌≢◌, false, IfOk, IfErr, If
 ghost use Rattle.weed_base.specs.Told.{IsCauseOf};
 ghost use Rattle.weed_base.specs.Files.{BothTold};
 ghost use Rattle.volume.specs.declared.held.Mode.TheVariants.{ReadWrite};
-ghost use Rattle.volume.specs.Making.{LeavesOthers};
+ghost use Rattle.volume_items.specs.Changes.{LeavesOthers};
 ghost use Rattle.volume.specs.Opening.{IsOpened, IsRead, IsUnread};
 
-use crate::fault::VolumeFault;
 use crate::held::{Mode, Volume};
 use crate::mending::{mend, plan_index};
 use crate::standing::stand_on;
 use std::alloc::Global;
+use volume_items::VolumeFault;
 use weed_base::Disk;
 
 /// What an opening did to the files of a volume.

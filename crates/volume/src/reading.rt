@@ -4,16 +4,15 @@ ghost use Rattle.weed_base.specs.Told.{IsCauseOf};
 ghost use Rattle.weed_base.specs.Files.{content};
 ghost use Rattle.weed_base.specs.DiskCalls.{Looks};
 ghost use Rattle.needle.specs.declared.item.ReadItem.{ReadItem};
-ghost use Rattle.volume.specs.Contents.{contents_of};
+ghost use Rattle.volume_items.specs.Contents.{contents_of};
 ghost use Rattle.volume.specs.Holds.{Holds};
 ghost use Rattle.volume.specs.Reads.{Gets, MayFailToRead, ReadAnswers, ReadsFiles, ReadsFrom, TellsOf, Yields, YieldsAt, damage_of};
 
-use crate::fault::VolumeFault;
-use crate::file_names::{Part, file_name};
 use crate::held::Volume;
 use needle::{Head, Item, Needle, NeedleFault, Version, padded_len};
 use needle_index::Spot;
 use std::alloc::Global;
+use volume_items::{Part, VolumeFault, file_name, no_item};
 use weed_base::{Disk, FileName};
 
 /// The bytes of a file from a place on: as many as there are, and at most `len`.
@@ -45,17 +44,6 @@ fn tells_of(text: &[u8], key: u64, size: u32) -> bool
     }
     let head = Head::read(text);
     head.key == key && head.size == size
-}
-
-/// That no whole item lies at a place.
-pub(crate) fn no_item(at: u64) -> VolumeFault
-    ensures { result ≡ VolumeFault.Damaged at 0 0 }
-{
-    VolumeFault::Damaged {
-        at,
-        stored: 0,
-        computed: 0,
-    }
 }
 
 /// What a needle's refusal says of its place.

@@ -4,17 +4,15 @@ ghost use Rattle.weed_base.specs.Files.{content};
 ghost use Rattle.weed_base.specs.DiskCalls.{Looks};
 ghost use Rattle.needle.specs.declared.item.ReadItem.{ReadItem};
 ghost use Rattle.needle.specs.Fields.{AreBytes};
-ghost use Rattle.volume.specs.Garbage.{Fit};
+ghost use Rattle.volume_items.specs.Garbage.{Fit};
 ghost use Rattle.volume.specs.Opening.{BeginsWithBlock, IsBlockFault, IsRead, IsUnread};
-ghost use Rattle.volume.specs.Walk.{IsWalked};
+ghost use Rattle.volume_items.specs.Walk.{IsWalked};
 
 use crate::create::is_there;
-use crate::fault::VolumeFault;
-use crate::file_names::{Part, file_name};
 use crate::held::{Mode, Volume};
-use crate::walk::{Walked, walk};
 use needle::{NeedleFault, SuperBlock, Version};
 use std::alloc::Global;
+use volume_items::{Part, VolumeFault, Walked, file_name, walk};
 use weed_base::{Disk, FileName};
 
 /// The superblock of a file of items.

@@ -7,18 +7,16 @@ ghost use Rattle.needle.specs.declared.item.ReadItem.{ReadItem};
 ghost use Rattle.needle.specs.Layout.{padded};
 ghost use Rattle.volume.specs.declared.held.Mode.TheVariants.{ReadWrite};
 ghost use Rattle.volume.specs.Appending.{ChangesBehind, HoldsMore};
-ghost use Rattle.volume.specs.Contents.{contents_of, last_end};
+ghost use Rattle.volume_items.specs.Contents.{contents_of, last_end};
 ghost use Rattle.volume.specs.Holds.{Holds, HoldsUnlessBroken};
 ghost use Rattle.volume.specs.Writes.{AppendAnswers, HasSmallParts, IsClosed, IsFull, IsHeldOtherwise, IsMissized, IsOpen, IsSized, Leaves, MayReplace, OverContents, SizedAnswers, Stays, WriteAnswers, cookie_in};
 
 use crate::appending::Pieces;
-use crate::fault::VolumeFault;
-use crate::file_names::{Part, file_name};
 use crate::held::{Mode, Volume};
-use crate::look::{LAST_END, MOST_DATA};
 use needle::{Needle, padded_len};
 use needle_index::IndexEntry;
 use std::alloc::Global;
+use volume_items::{LAST_END, MOST_DATA, Part, VolumeFault, file_name};
 use weed_base::{Disk, Failed};
 
 /// Where a needle was written.

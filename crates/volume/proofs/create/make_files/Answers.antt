@@ -1,7 +1,7 @@
-use Rattle.volume.specs.Making.{ChangesOnly, LeavesOthers}
-use Rattle.volume.specs.declared.file_names.Part.TheVariants.{Items, Index, Sign}
-use Rattle.volume.proofs.Told.{both_twice, told_related_both}
-use Rattle.volume.proofs.Created.{others_of, others_both}
+use Rattle.volume_items.specs.Changes.{ChangesOnly, LeavesOthers}
+use Rattle.volume_items.specs.declared.file_names.Part.TheVariants.{Items, Index, Sign}
+use Rattle.volume_items.proofs.Told.{both_twice, told_related_both}
+use Rattle.volume_items.proofs.Apart.{others_of, others_both}
 use Rattle.volume.proofs.create.make_files.Goals as goal
 
 pub returns-in_err-remove_settled-clause-others : goal.returns-in_err-remove_settled-clause-others

@@ -1,7 +1,7 @@
 use Rattle.std.proofs.Common.{subst}
 use Rattle.std.specs.Prelude.{IfSome, IfOk}
 use Rattle.weed_base.specs.Files.{content}
-use Rattle.volume.specs.Walk.{AreEntries}
+use Rattle.volume_items.specs.Walk.{AreEntries}
 use Rattle.volume.proofs.Mended.{told_stand}
 use Rattle.volume.proofs.mending.entries_of.Goals as goal
 

@@ -1,8 +1,8 @@
 use Rattle.std.proofs.Common.{subst}
 use Rattle.weed_base.specs.Files.{BothTold, cut_to}
-use Rattle.volume.specs.Making.{ChangesOnly}
-use Rattle.volume.proofs.Told.{both_done, both_failed}
-use Rattle.volume.proofs.Named.{unchanged, cut_others}
+use Rattle.volume_items.specs.Changes.{ChangesOnly}
+use Rattle.volume_items.proofs.Told.{both_done, both_failed}
+use Rattle.volume_items.proofs.Named.{unchanged, cut_others}
 use Rattle.volume.proofs.mending.trim.Goals as goal
 
 pub returns-in_err-cut-clause-others : goal.returns-in_err-cut-clause-others

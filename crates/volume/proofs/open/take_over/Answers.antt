@@ -1,7 +1,7 @@
 use Rattle.std.proofs.Common.{rules, ◌∙◌, ap}
 use Rattle.std.specs.Option.{option_map}
 use Rattle.volume.specs.Opening.{mended}
-use Rattle.volume.proofs.Told.{moved}
+use Rattle.volume_items.proofs.Told.{moved}
 use Rattle.volume.proofs.MendedFiles.{some_where, told_opened}
 use Rattle.volume.proofs.open.take_over.Goals as goal
 

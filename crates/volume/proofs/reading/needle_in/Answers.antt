@@ -2,7 +2,7 @@ use Rattle.std.proofs.Common.{refl, subst, sym, inr}
 use Rattle.volume.specs.Reads.{Yields}
 use Rattle.std.proofs.Common.{Err}
 use Rattle.std.proofs.Common.{◌∙◌}
-use Rattle.volume.proofs.Judged.{never_true}
+use Rattle.volume_items.proofs.Judged.{never_true}
 use Rattle.volume.proofs.Found.{not_told}
 use Rattle.volume.proofs.reading.needle_in.Goals as goal
 

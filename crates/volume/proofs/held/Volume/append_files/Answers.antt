@@ -2,11 +2,12 @@ use Rattle.std.proofs.Common.{sym, subst}
 use Rattle.std.specs.Prelude.{IfSome}
 use Rattle.weed_base.specs.Files.{BothTold}
 use Rattle.needle_index.specs.Text.{entry_text}
-use Rattle.volume.specs.Appending.{Appends, EndsAt, KeepsFront}
-use Rattle.volume.specs.Making.{ChangesOnly}
+use Rattle.volume_items.specs.Growing.{Appends, EndsAt, KeepsFront}
+use Rattle.volume_items.specs.Changes.{ChangesOnly}
 use Rattle.volume.specs.Pieces.{joined}
-use Rattle.volume.proofs.Grown.{on_ok, told_behind, told_behind_then, told_grow, told_index_ends}
-use Rattle.volume.proofs.Told.{moved_both}
+use Rattle.volume_items.proofs.Growing.{on_ok}
+use Rattle.volume.proofs.Grown.{told_behind, told_behind_then, told_grow, told_index_ends}
+use Rattle.volume_items.proofs.Told.{moved_both}
 use Rattle.volume.proofs.held.Volume.append_files.Goals as goal
 
 pub returns-in_err-append_item-clause-behind : goal.returns-in_err-append_item-clause-behind

@@ -4,7 +4,7 @@ use Rattle.needle.specs.Layout.{padded}
 use Rattle.needle.specs.declared.item.Item.TheVariants.{Live}
 use Rattle.needle_index.specs.Text.{entry_at, entry_for, entry_text}
 use Rattle.volume.specs.Appending.{GrowBy, taken_by}
-use Rattle.volume.specs.Contents.{last_end}
+use Rattle.volume_items.specs.Contents.{last_end}
 use Rattle.volume.proofs.Grown.{taken_as, told_holds}
 use Rattle.volume.proofs.held.Volume.append_needle.Goals as goal
 

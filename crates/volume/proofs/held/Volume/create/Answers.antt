@@ -1,8 +1,8 @@
 use Rattle.std.proofs.Common.{refl, rules}
 use Rattle.needle.specs.declared.version.Version.TheVariants.{V3}
 use Rattle.volume.specs.Making.{created}
-use Rattle.volume.proofs.Fitting.{fits_none}
-use Rattle.volume.proofs.Told.{told_done}
+use Rattle.volume_items.proofs.Fitting.{fits_none}
+use Rattle.volume_items.proofs.Told.{told_done}
 use Rattle.volume.proofs.Created.{created_holds}
 use Rattle.volume.proofs.held.Volume.create.Goals as goal
 

@@ -1,7 +1,7 @@
 use Rattle.std.proofs.Common.{◌≡◌, ◌*◌, List, Some, ap, subst, sym, ◌∙◌}
 use Rattle.std.specs.Prelude.{IfSome}
 use Rattle.needle.specs.declared.item.ReadItem.{ReadItem}
-use Rattle.volume.specs.Contents.{contents_of}
+use Rattle.volume_items.specs.Contents.{contents_of}
 use Rattle.volume.specs.Holds.{Holds}
 use Rattle.volume.specs.Writes.{cookie_in}
 use Rattle.volume.proofs.Cookies.{told_cookie, told_no_cookie}

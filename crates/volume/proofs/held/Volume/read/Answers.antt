@@ -3,7 +3,7 @@ use Rattle.std.specs.Prelude.{IfSome}
 use Rattle.std.specs.FinMap.{get}
 use Rattle.std.proofs.lemmas.Result.{err_from_is_err_and}
 use Rattle.needle.specs.declared.item.ReadItem.{ReadItem}
-use Rattle.volume.specs.Contents.{contents_of}
+use Rattle.volume_items.specs.Contents.{contents_of}
 use Rattle.volume.specs.Holds.{Holds}
 use Rattle.volume.specs.Reads.{ReadsFrom}
 use Rattle.volume.proofs.Found.{told_failed, told_none, told_ok, told_other}

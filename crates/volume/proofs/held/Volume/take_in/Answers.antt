@@ -1,4 +1,4 @@
-use Rattle.volume.proofs.Fitting.{done, fits_on}
+use Rattle.volume_items.proofs.Fitting.{done, fits_on}
 use Rattle.volume.proofs.held.Volume.take_in.Goals as goal
 
 pub invariant_of-self : goal.invariant_of-self

@@ -1,5 +1,0 @@
-use Rattle.volume.proofs.Appended.{items_unique}
-use Rattle.volume.proofs.laws.a_text_has_one_list_of_items.Goals as goal
-
-pub returns : goal.returns
-returns c = items_unique

@@ -1,5 +1,0 @@
-use Rattle.volume.proofs.Living.{vacuumed}
-use Rattle.volume.proofs.laws.a_vacuum_keeps_the_contents.Goals as goal
-
-pub returns : goal.returns
-returns c = vacuumed

@@ -1,0 +1,17 @@
+pub mod FileNames
+pub mod Told
+pub mod Named
+pub mod Appended
+pub mod Spots
+pub mod Summed
+pub mod Looked
+pub mod Judged
+pub mod Walks
+pub mod Loaded
+pub mod Entering
+pub mod Living
+pub mod Fitting
+pub mod Copied
+pub mod Vacuums
+pub mod Apart
+pub mod Growing

@@ -1,0 +1,13 @@
+pub mod Faults
+pub mod FileNames
+pub mod Contents
+pub mod Spots
+pub mod Garbage
+pub mod Window
+pub mod Walk
+pub mod Copying
+pub mod Lives
+pub mod Vacuuming
+pub mod Changes
+pub mod Growing
+pub mod Loading

@@ -1,0 +1,124 @@
+ghost use Rattle.std.specs.Prelude.{◌≡◌, ◌+◌, ◌-◌, ◌*◌, ◌≤◌, ◌<◌, ◌++◌, ◌^◌, List, IfOk, IfErr, IfSome, IsErrOf, OnOk, length, take, drop};
+ghost use Rattle.weed_base.specs.Told.{HasCause, IsCauseOf};
+ghost use Rattle.weed_base.specs.Files.{BothTold, content};
+ghost use Rattle.needle.specs.declared.item.ReadItem.{ReadItem};
+ghost use Rattle.needle.specs.declared.version.Version.{Version};
+ghost use Rattle.volume_items.specs.Growing.{Appends, EndsAt};
+ghost use Rattle.volume_items.specs.Copying.{IsLost};
+ghost use Rattle.volume_items.specs.Changes.{ChangesOnly};
+ghost use Rattle.volume_items.specs.FileNames.{name_of};
+ghost use Rattle.volume_items.specs.Vacuuming.{IsDamageAt, LiesAt};
+ghost use Rattle.volume_items.specs.Window.{IsOf};
+ghost use Rattle.volume_items.specs.declared.file_names.Part.TheVariants.{Items, Copy};
+
+use crate::copying::copy_bytes;
+use crate::fault::{VolumeFault, no_item};
+use crate::file_names::{Part, file_name};
+use crate::look::{LAST_END, Seen, head_at, judge, look};
+use crate::window::Window;
+use needle::{NeedleFault, Version, padded_len};
+use needle_index::IndexEntry;
+use weed_base::{Disk, Failed, FileName};
+
+/// What is told of an entry whose item doesn't lie whole at its place: the item's two checksums where they differ,
+/// else 0 twice.
+fn damage<D: Disk>(
+    disk: &mut D,
+    name: &FileName,
+    window: &mut Window,
+    version: Version,
+    entry: &IndexEntry,
+    len: u64,
+) -> Result<VolumeFault, Failed>
+    requires of { IfSome (D.files disk.old) (λ files. IsOf (content files name.now) window.old) }
+    requires len { IfSome (D.files disk.old) (λ files. len ≡ length (content files name.now)) }
+    ensures damaged { IfOk result (IsDamageAt (8 * entry.now.offset)) }
+    ensures files { D.files disk.new ≡ D.files disk.old }
+    ensures cause { HasCause (D.faults disk.old) (D.faults disk.new) result }
+    ensures beside { D.beside disk.new ≡ D.beside disk.old }
+{
+    let at = 8 * u64::from(entry.offset);
+    let head = match head_at(disk, name, window, at)? {
+        Some(head) => head,
+        None => return Ok(no_item(at)),
+    };
+    let taken = padded_len(head.size, version);
+    if IndexEntry::at(at, head.key, head.size) != *entry
+        || taken > len.min(LAST_END).saturating_sub(at)
+    {
+        return Ok(no_item(at));
+    }
+    match judge(disk, name, window, version, at, &head)? {
+        Err(NeedleFault::ChecksumMismatch { stored, computed }) => Ok(VolumeFault::Damaged {
+            at,
+            stored,
+            computed,
+        }),
+        _ => Ok(no_item(at)),
+    }
+}
+
+/// The item of an entry, which lies in a file of so many bytes.
+fn item_of<D: Disk>(
+    disk: &mut D,
+    name: &FileName,
+    window: &mut Window,
+    version: Version,
+    entry: &IndexEntry,
+    len: u64,
+) -> Result<Seen, VolumeFault>
+    requires of { IfSome (D.files disk.old) (λ files. IsOf (content files name.now) window.old) }
+    requires len { IfSome (D.files disk.old) (λ files. len ≡ length (content files name.now)) }
+    requires lies { IfSome (D.files disk.old) (λ files. (read : ReadItem) × LiesAt version (content files name.now) entry.now read) }
+    ensures of { IfOk result (λ _. IfSome (D.files disk.old) (λ files. IsOf (content files name.now) window.new)) }
+    ensures taken { IfOk result (λ seen. IfSome (D.files disk.old) (λ files. (read : ReadItem) → LiesAt version (content files name.now) entry.now read → seen.taken ≡ read.taken)) }
+    ensures within { IfOk result (λ seen. (8 * entry.now.offset + seen.taken ≤ 2 ^ 35 - 8) × (24 ≤ seen.taken)) }
+    ensures lost { IfErr result (IsLost (D.files disk.old)) }
+    ensures files { D.files disk.new ≡ D.files disk.old }
+    ensures cause { IsCauseOf (D.faults disk.old) (D.faults disk.new) (IsErrOf result VolumeFault.DiskFault) }
+    ensures beside { D.beside disk.new ≡ D.beside disk.old }
+{
+    let at = 8 * u64::from(entry.offset);
+    match look(disk, name, window, version, at, len)? {
+        Some(seen) if IndexEntry::at(at, seen.key, seen.size) == *entry => Ok(seen),
+        _ => Err(damage(disk, name, window, version, entry, len)?),
+    }
+}
+
+/// Copies the item of an entry behind the copy's end, and answers how many bytes it took. Takes no memory.
+pub fn copy_item<D: Disk>(
+    disk: &mut D,
+    id: u32,
+    window: &mut Window,
+    version: Version,
+    entry: &IndexEntry,
+    len: u64,
+    end: u64,
+) -> Result<u64, VolumeFault>
+    requires of { IfSome (D.files disk.old) (λ files. IsOf (content files (name_of id Items)) window.old) }
+    requires len { IfSome (D.files disk.old) (λ files. len ≡ length (content files (name_of id Items))) }
+    requires lies { IfSome (D.files disk.old) (λ files. (read : ReadItem) × LiesAt version (content files (name_of id Items)) entry.now read) }
+    requires ends { IfSome (D.files disk.old) (EndsAt (name_of id Copy) end) }
+    requires within { end ≤ 2 ^ 35 }
+    ensures copied { IfOk result (λ taken. BothTold (λ old new. (read : ReadItem) → LiesAt version (content old (name_of id Items)) entry.now read
+        → (taken ≡ read.taken) × Appends (name_of id Copy) (take read.taken (drop (8 * entry.now.offset) (content old (name_of id Items)))) old new)
+        (D.files disk.old) (D.files disk.new)) }
+    ensures lost { IfErr result (IsLost (D.files disk.old)) }
+    ensures others { BothTold (ChangesOnly (name_of id Copy)) (D.files disk.old) (D.files disk.new) }
+    ensures cause { IsCauseOf (D.faults disk.old) (D.faults disk.new) (IsErrOf result VolumeFault.DiskFault) }
+    ensures beside { D.beside disk.new ≡ D.beside disk.old }
+{
+    let from = file_name(id, Part::Items);
+    let seen = item_of(disk, &from, window, version, entry, len)?;
+    let at = 8 * u64::from(entry.offset);
+    copy_bytes(
+        disk,
+        &from,
+        &file_name(id, Part::Copy),
+        window,
+        at,
+        end,
+        seen.taken,
+    )?;
+    Ok(seen.taken)
+}
