@@ -1,22 +1,21 @@
 -- Lines of chunks, as `httparse` reads them from the first 1,024 bytes.
-use Rattle.std.proofs.Common.{◌≡◌, ◌≢◌, ℕ, zero, suc, ◌+◌, ◌-◌, ◌<◌, ◌≤◌, Bool, true, false, get_or, List, [], ◌∷◌, ◌++◌, length, take, drop, codes, Ok, Err, Option, Some, None, refl, sym, ap, subst, ◌∙◌, arith, append_assoc, append-nil, length-append, inl, inr, ◌⊎◌, ⊎_elim}
+use Rattle.std.proofs.Common.{◌≡◌, ◌≢◌, ℕ, zero, suc, ◌+◌, ◌-◌, ◌<◌, ◌≤◌, Bool, true, false, get_or, List, [], ◌∷◌, ◌++◌, length, take, drop, codes, Ok, Err, Option, Some, None, refl, sym, ap, subst, ◌∙◌, arith, append_assoc, append-nil, length-append, ⊎_elim}
 use Rattle.std.specs.Prelude.{nat_eq, if◌then◌else◌, All, IsTrue}
 use Rattle.std.specs.List.{ends_with}
 use Rattle.std.proofs.lemmas.Bool.{cases_lt}
 use Rattle.std.proofs.lemmas.Bool.Decides.{Decides-eqb, nat_tests}
 use Rattle.std.proofs.lemmas.Slice.Eq.{ends_is}
-use Rattle.std.proofs.lemmas.List.{length-drop, length-take, length-take-le, take-append-drop, take-append-le, take_at, drop_at, take_all, nil_from_length}
+use Rattle.std.proofs.lemmas.List.{length-take, take-append-drop, take-append-le, take_at, drop_at, take_all, nil_from_length}
 use Rattle.std.proofs.lemmas.List.Elements.{All-nil, All-cons, All-take, All-append, All-weaker, All-get_or}
 use Rattle.std.proofs.Math.Seq.{take-append-add, get_or-append_seam}
 use Rattle.std.specs.Char.{is_ascii_hexdigit}
-use Rattle.httparse.specs.Grammar.{is_ows, is_extension_byte, AllPass, crlf, print_end, print_extension, ChunkLine, chunk_size, print_chunk_line, IsChunkLine, IsExtension, ReadsChunkLine, HasNoChunkLine, NeverHasChunkLine, MayBecomeChunkLine}
+use Rattle.httparse.specs.Grammar.{is_ows, is_extension_byte, print_extension, ChunkLine, chunk_size, print_chunk_line, IsChunkLine, IsExtension, HasNoChunkLine, NeverHasChunkLine, MayBecomeChunkLine}
 use Rattle.httparse.specs.Spans.{IsChunkLineAt}
 use Rattle.http_bodies.specs.declared.stage.Stage.TheVariants.{Line}
 use Rattle.http_bodies.specs.declared.fault.BodyFault.TheVariants.{BadChunk, TooLong}
-use Rattle.http_bodies.specs.declared.mark.Mark.{Mark}
 use Rattle.http_bodies.specs.Stage.{IsSound, turns, behind_line}
-use Rattle.http_bodies.specs.Mark.{IsEndAt, BeginsWithMark, IsOpen, IsNever, IsChunkLine as IsShortLine}
-use Rattle.http_bodies.specs.Body.{Leads, line, StandsFor, bad, over, Refused}
+use Rattle.http_bodies.specs.Mark.{IsEndAt, BeginsWithMark, IsNever, IsChunkLine as IsShortLine}
+use Rattle.http_bodies.specs.Body.{line, bad, over}
 use Rattle.http_bodies.specs.Found.{FindsMark, least_line}
 use Rattle.http_bodies.proofs.LineLemmas.{never_on, end_on, least_reached}
 

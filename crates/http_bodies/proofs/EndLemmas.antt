@@ -1,6 +1,6 @@
 -- The line end behind a chunk.
-use Rattle.std.proofs.Common.{◌≡◌, ◌≢◌, ℕ, ◌+◌, ◌-◌, ◌<◌, ◌≤◌, Bool, true, false, List, [], ◌∷◌, ◌++◌, length, take, drop, codes, Ok, Err, Some, None, refl, sym, ap, subst, ◌∙◌, arith, append_assoc, append-nil, length-append, inl, inr, ◌⊎◌, ⊎_elim}
-use Rattle.std.specs.Prelude.{nat_eq, ⊤}
+use Rattle.std.proofs.Common.{◌≡◌, ℕ, Bool, true, false, List, [], ◌∷◌, ◌++◌, length, take, drop, codes, Ok, Err, Some, None, refl, sym, ap, subst, ◌∙◌, arith, append-nil, length-append, inl, inr, ◌⊎◌, ⊎_elim}
+use Rattle.std.specs.Prelude.{nat_eq}
 use Rattle.std.specs.List.{starts_with}
 use Rattle.std.proofs.lemmas.Bool.{false≢true}
 use Rattle.std.proofs.lemmas.Bool.Decides.{Decides-eqb}
@@ -8,9 +8,8 @@ use Rattle.std.proofs.lemmas.Slice.Eq.{starts_is}
 use Rattle.std.proofs.lemmas.List.{take_at}
 use Rattle.http_bodies.specs.declared.stage.Stage.TheVariants.{Chunk, Line}
 use Rattle.http_bodies.specs.declared.fault.BodyFault.TheVariants.{BadChunk}
-use Rattle.http_bodies.specs.declared.mark.Mark.{Mark}
-use Rattle.http_bodies.specs.Mark.{BeginsWithMark, IsOpen, IsNever}
-use Rattle.http_bodies.specs.Body.{Leads, chunk_end, StandsFor, bad, Refused}
+use Rattle.http_bodies.specs.Mark.{BeginsWithMark, IsNever}
+use Rattle.http_bodies.specs.Body.{Leads, chunk_end, bad}
 use Rattle.http_bodies.specs.Found.{FindsMark}
 use Rattle.http_bodies.proofs.LineLemmas.{never_on}
 

@@ -1,16 +1,13 @@
 -- Line ends, and marks that never come.
-use Rattle.std.proofs.Common.{◌≡◌, ◌≢◌, ℕ, ◌+◌, ◌-◌, ◌<◌, ◌≤◌, Bool, true, false, List, [], ◌∷◌, ◌++◌, length, take, drop, codes, refl, sym, ap, subst, ◌∙◌, arith, append_assoc, append-nil, length-append, inl, inr, ◌⊎◌, ⊎_elim}
+use Rattle.std.proofs.Common.{◌≡◌, ℕ, ◌+◌, ◌<◌, ◌≤◌, Bool, true, false, List, [], ◌∷◌, ◌++◌, length, take, drop, codes, refl, sym, ap, subst, ◌∙◌, arith, append_assoc, ⊎_elim}
 use Rattle.std.specs.Prelude.{nat_eq, if◌then◌else◌}
-use Rattle.std.specs.List.{ends_with, starts_with}
+use Rattle.std.specs.List.{ends_with}
 use Rattle.std.proofs.lemmas.Bool.{cases_lt, false≢true}
 use Rattle.std.proofs.lemmas.Bool.Decides.{Decides-eqb}
-use Rattle.std.proofs.lemmas.Slice.Eq.{starts_is, ends_is}
-use Rattle.std.proofs.lemmas.List.{length-drop, length-take, take-append-drop, take-append-le, drop-append-le, take_at, nil_from_length}
+use Rattle.std.proofs.lemmas.Slice.Eq.{ends_is}
+use Rattle.std.proofs.lemmas.List.{length-drop, length-take, take-append-drop, take-append-le, drop-append-le}
 use Rattle.http_bodies.specs.declared.stage.Stage.{Stage}
-use Rattle.http_bodies.specs.declared.stage.Stage.TheVariants.{Chunk, Line}
-use Rattle.http_bodies.specs.declared.fault.BodyFault.TheVariants.{BadChunk}
-use Rattle.http_bodies.specs.Mark.{IsEndAt, BeginsWithMark, IsOpen, IsNever}
-use Rattle.http_bodies.specs.Body.{Leads, chunk_end, StandsFor, bad, Refused}
+use Rattle.http_bodies.specs.Mark.{IsEndAt, BeginsWithMark, IsNever}
 use Rattle.http_bodies.specs.Found.{least_line}
 
 -- what never comes doesn't come behind more bytes either

@@ -1,18 +1,17 @@
 -- Trailer lines, as a search for a line end finds them.
-use Rattle.std.proofs.Common.{◌≡◌, ◌≢◌, ℕ, ◌+◌, ◌-◌, ◌<◌, ◌≤◌, max, Bool, true, false, get_or, Ok, Err, Some, None, List, [], ◌∷◌, ◌++◌, length, take, drop, codes, refl, sym, ap, subst, ◌∙◌, arith, append_assoc, append-nil, length-append, inl, inr, ◌⊎◌, ⊎_elim}
+use Rattle.std.proofs.Common.{◌≡◌, ℕ, ◌+◌, ◌-◌, ◌<◌, ◌≤◌, max, Bool, true, false, get_or, Ok, Err, Some, None, List, [], ◌∷◌, ◌++◌, length, take, drop, codes, refl, sym, ap, subst, ◌∙◌, arith, append_assoc, append-nil, length-append, inl, inr, ◌⊎◌, ⊎_elim}
 use Rattle.std.specs.Prelude.{nat_eq, if◌then◌else◌}
 use Rattle.std.specs.List.{ends_with}
 use Rattle.std.proofs.lemmas.Bool.{cases_lt}
 use Rattle.std.proofs.lemmas.Bool.Decides.{Decides-eqb}
 use Rattle.std.proofs.lemmas.Slice.Eq.{ends_is}
-use Rattle.std.proofs.lemmas.List.{length-drop, length-take, length-take-le, take-append-drop, take-append-le, drop-append-le, take_at, drop_at, drop-drop}
+use Rattle.std.proofs.lemmas.List.{length-drop, length-take-le, take-append-drop, drop-append-le, drop_at}
 use Rattle.std.proofs.lemmas.List.Prefix.{at_from_reads, at_reads}
 use Rattle.memchr.specs.Find.{OccursAt, Nowhere, NoneBefore, FindsNeedle}
 use Rattle.http_bodies.specs.declared.stage.Stage.TheVariants.{Length, Trailers}
-use Rattle.http_bodies.specs.Mark.{IsEndAt, IsLine, BeginsWithMark, IsOpen, IsNever}
-use Rattle.http_bodies.specs.Body.{Leads, last, trailer, StandsFor, bad, Refused}
+use Rattle.http_bodies.specs.Mark.{IsEndAt, IsLine, BeginsWithMark, IsNever}
+use Rattle.http_bodies.specs.Body.{Leads, last, trailer, bad}
 use Rattle.http_bodies.specs.declared.fault.BodyFault.TheVariants.{BadChunk}
-use Rattle.http_bodies.specs.declared.mark.Mark.{Mark}
 use Rattle.http_bodies.specs.Found.{least_line, FindsMark}
 use Rattle.http_bodies.proofs.LineLemmas.{never_on, end_within, end_on, least_reached}
 

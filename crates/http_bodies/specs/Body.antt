@@ -1,13 +1,12 @@
 -- What some bytes are to a body: its data, and how it ends.
-use Rattle.std.specs.Prelude.{◌≡◌, ℕ, zero, suc, ◌+◌, ◌-◌, ◌<◌, ◌≤◌, List, [], ◌∷◌, ◌++◌, ◌≢◌, length, take, codes, Option, None, Some, IfSome, Result, Ok, Err, ⊤}
+use Rattle.std.specs.Prelude.{◌≡◌, ℕ, zero, suc, ◌-◌, ◌<◌, ◌≤◌, List, [], ◌∷◌, ◌++◌, length, take, codes, Option, IfSome, Result, Ok, Err, ⊤}
 use Rattle.weed_base.specs.Told.{Consumes}
 use Rattle.http_bodies.specs.declared.fault.BodyFault.{BodyFault}
 use Rattle.http_bodies.specs.declared.fault.BodyFault.TheVariants.{ReadFault, Cut, BadChunk, TooLong, BadForm, Memory}
 use Rattle.http_bodies.specs.declared.stage.Stage.{Stage}
 use Rattle.http_bodies.specs.declared.stage.Stage.TheVariants.{Length, Over, Line, Chunk, Trailers}
-use Rattle.http_bodies.specs.declared.mark.Mark.{Mark}
 use Rattle.http_bodies.specs.Stage.{behind_line}
-use Rattle.http_bodies.specs.Mark.{IsChunkLine, IsLine, IsTrailer, BeginsWithMark, IsOpen, IsNever}
+use Rattle.http_bodies.specs.Mark.{IsChunkLine, IsLine, IsOpen, IsNever}
 
 -- How a body ends: whole, with these bytes behind it, or refused.
 pub data BodyEnd : Type 0 where

@@ -1,5 +1,5 @@
 -- What stands between the data of a chunked body: the line of a chunk, the line end behind it, and trailer lines.
-use Rattle.std.specs.Prelude.{◌≡◌, ℕ, ◌+◌, ◌<◌, ◌≤◌, ◌⊎◌, List, [], ◌++◌, length, take, drop, codes, ⊤}
+use Rattle.std.specs.Prelude.{◌≡◌, ℕ, ◌+◌, ◌<◌, ◌≤◌, ◌⊎◌, List, [], ◌++◌, length, take, drop, codes}
 use Rattle.httparse.specs.Grammar.{ChunkLine, ReadsChunkLine, chunk_size}
 use Rattle.http_bodies.specs.declared.stage.Stage.{Stage}
 use Rattle.http_bodies.specs.declared.stage.Stage.TheVariants.{Length, Over, Line, Chunk, Trailers}

@@ -3,8 +3,10 @@
 
 mod fault;
 mod mark;
+mod read;
 mod stage;
 mod state;
 
 pub use fault::BodyFault;
+pub use read::read_body;
 pub use state::{BodyState, MAX_BODY};

@@ -1,4 +1,3 @@
-use Rattle.std.proofs.Common.{◌≡◌, ◌++◌, length, take, drop, codes, arith, ap}
 use Rattle.http_bodies.proofs.EndLemmas.{end_taken, end_open, end_never}
 use Rattle.http_bodies.proofs.mark.read_end.Goals as goal
 
