@@ -1,0 +1,3 @@
+pub mod QueryLemmas
+pub mod FormLemmas
+pub mod PlaceLemmas
