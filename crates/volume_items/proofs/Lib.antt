@@ -15,3 +15,4 @@ pub mod Copied
 pub mod Vacuums
 pub mod Apart
 pub mod Growing
+pub mod Ordered

@@ -61,19 +61,19 @@ needle-most needle fits = let most = parts-most needle fits in let len = needle-
 
 -- ---- what an item makes of index and contents
 
-not_none : (n : ℕ) → 0 < n → nat_eq n 0 ≡ false
+pub not_none : (n : ℕ) → 0 < n → nat_eq n 0 ≡ false
 not_none n least = grind (arith, nat_tests)
 
 no_removal : (n : ℕ) → n < 2 ^ 32 - 1 → nat_eq n (2 ^ 32 - 1) ≡ false
 no_removal n most = grind (arith, nat_tests)
 
-entered-live : (spots : Spots) (place key size : ℕ) → 0 < size → size < 2 ^ 32 - 1
+pub entered-live : (spots : Spots) (place key size : ℕ) → 0 < size → size < 2 ^ 32 - 1
     → entered spots (entry_at place key size) ≡ insert spots key (record { offset = place / 8; size = size })
 entered-live spots place key size least most =
     ap (λ (b : Bool). entered spots (cond b (removal key (place / 8)) (record { key = key; offset = place / 8; size = size }))) (not_none size least)
     ∙ ap (λ (b : Bool). cond b (remove spots key) (insert spots key (record { offset = place / 8; size = size }))) (no_removal size most)
 
-entered-gone : (spots : Spots) (place key : ℕ) → entered spots (entry_at place key 0) ≡ remove spots key
+pub entered-gone : (spots : Spots) (place key : ℕ) → entered spots (entry_at place key 0) ≡ remove spots key
 entered-gone spots place key = refl
 
 put_leads : (version : Version) (text : List ℕ) (key k : ℕ) (spots : Spots) (contents : Contents) (spot : Spot) (needle : Needle)
@@ -105,17 +105,17 @@ taken_again place count end text ends =
     let back : place + (end - place) ≡ end = omega arith in
     sym (ap (take count) (ap (λ (n : ℕ). drop place (take n text)) (sym back) ∙ drop-take place (end - place) text) ∙ take-take count (end - place) (drop place text) (omega arith))
 
-taken_eights : (version : Version) (text : List ℕ) (place : ℕ) (read : ReadItem) → HoldsAt version text place read → place % 8 ≡ 0 → (place + read.taken) % 8 ≡ 0
+pub taken_eights : (version : Version) (text : List ℕ) (place : ℕ) (read : ReadItem) → HoldsAt version text place read → place % 8 ≡ 0 → (place + read.taken) % 8 ≡ 0
 taken_eights version text place read held eights =
     let whole = (read_whole version (drop place text) read held.is_read).0 in
     omega (arith, whole)
 
-bytes_there : (text : List ℕ) (place count end : ℕ) → AreBytes (take end text) → place + count ≤ end → AreBytes (take count (drop place text))
+pub bytes_there : (text : List ℕ) (place count end : ℕ) → AreBytes (take end text) → place + count ≤ end → AreBytes (take count (drop place text))
 bytes_there text place count end bytes ends =
     subst AreBytes (sym (taken_again place count end text ends)) (IsBytes-take count (drop place (take end text)) (IsBytes-drop place (take end text) bytes))
 
 -- the item alone, which ends before a place up to which all are bytes
-begun : (version : Version) (text : List ℕ) (place : ℕ) (read : ReadItem) (end : ℕ) → AreBytes (take end text) → place + read.taken ≤ end → HoldsAt version text place read
+pub begun : (version : Version) (text : List ℕ) (place : ℕ) (read : ReadItem) (end : ℕ) → AreBytes (take end text) → place + read.taken ≤ end → HoldsAt version text place read
     → BeginsWith version (take read.taken (drop place text)) read
 begun version text place read end bytes ends held =
     let within : read_at version (take read.taken (drop place text)) ≡ Ok read = read_within version (drop place text) read.taken read held.is_read (omega arith) in

@@ -7,6 +7,10 @@ ghost use Rattle.needle_index.specs.Text.{entered, entry_for};
 ghost use Rattle.volume_items.specs.Contents.{HoldsAt, AreItems, end_of, contents_of, index_of, stored};
 ghost use Rattle.volume_items.specs.Spots.{Leads};
 ghost use Rattle.volume_items.specs.Lives.{live_of};
+ghost use Rattle.volume_items.specs.Vacuuming.{LieAt};
+ghost use Rattle.std.specs.List.Sorted.{IsNonDecreasingBy};
+ghost use Rattle.needle_index.specs.Order.{AreEntriesOf};
+ghost use Rattle.needle_index.specs.declared.entry.IndexEntry.{IndexEntry};
 
 /// A text has one list of items, and so one map of contents.
 pub fn a_text_has_one_list_of_items()
@@ -32,4 +36,10 @@ pub fn an_index_leads_to_the_contents()
 /// The items that lived at some moment leave, with those that came behind it, what all items leave.
 pub fn a_vacuum_keeps_the_contents()
     ensures { (begun since : List ReadItem) → contents_of (live_of begun ++ since) ≡ contents_of (begun ++ since) }
+{}
+
+/// The entries of an index by their offsets lead to the items that live, in their order.
+pub fn an_index_in_order_leads_to_the_living()
+    ensures { (version : Version) (text : List ℕ) (items : List ReadItem) (entries : List IndexEntry) → AreBytes (take (end_of 8 items) text) → AreItems version text 8 items
+        → AreEntriesOf (index_of items) entries → IsNonDecreasingBy (λ entry. entry.offset) entries → LieAt version text entries (live_of items) }
 {}
