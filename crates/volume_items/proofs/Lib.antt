@@ -16,3 +16,4 @@ pub mod Vacuums
 pub mod Apart
 pub mod Growing
 pub mod Ordered
+pub mod Onward

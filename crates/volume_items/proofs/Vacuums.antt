@@ -22,7 +22,7 @@ items_copy e = let h : 100 ≡ 99 = ap (λ (l : List ℕ). get_or l 1 0) e in om
 pub apart : (id : ℕ) (from to : List ℕ) → from ≡ name_of id Items → to ≡ name_of id Copy → from ≢ to
 apart id from to from_is to_is same = differ id Items Copy items_copy (sym from_is ∙ same ∙ to_is)
 
-there : (version : Version) (text : List ℕ) (entry : IndexEntry) (read : ReadItem) → LiesAt version text entry read → 8 * entry.offset + read.taken ≤ length text
+pub there : (version : Version) (text : List ℕ) (entry : IndexEntry) (read : ReadItem) → LiesAt version text entry read → 8 * entry.offset + read.taken ≤ length text
 there version text entry read lies =
     let place : ℕ = 8 * entry.offset in
     let whole = read_whole version (drop place text) read (lies.held).is_read in

@@ -7,7 +7,7 @@ ghost use Rattle.volume_items.specs.Growing.{Appends, EndsAt};
 ghost use Rattle.volume_items.specs.Copying.{IsLost};
 ghost use Rattle.volume_items.specs.Changes.{ChangesOnly};
 ghost use Rattle.volume_items.specs.FileNames.{name_of};
-ghost use Rattle.volume_items.specs.Vacuuming.{IsDamageAt, LiesAt};
+ghost use Rattle.volume_items.specs.Vacuuming.{CanCopy, HasCopied, IsDamageAt, LiesAt};
 ghost use Rattle.volume_items.specs.Window.{IsOf};
 ghost use Rattle.volume_items.specs.declared.file_names.Part.TheVariants.{Items, Copy};
 
@@ -86,7 +86,7 @@ fn item_of<D: Disk>(
 }
 
 /// Copies the item of an entry behind the copy's end, and answers how many bytes it took. Takes no memory.
-pub fn copy_item<D: Disk>(
+fn copy_item<D: Disk>(
     disk: &mut D,
     id: u32,
     window: &mut Window,
@@ -103,6 +103,9 @@ pub fn copy_item<D: Disk>(
     ensures copied { IfOk result (λ taken. BothTold (λ old new. (read : ReadItem) → LiesAt version (content old (name_of id Items)) entry.now read
         → (taken ≡ read.taken) × Appends (name_of id Copy) (take read.taken (drop (8 * entry.now.offset) (content old (name_of id Items)))) old new)
         (D.files disk.old) (D.files disk.new)) }
+    ensures few { IfOk result (λ taken. taken ≤ 2 ^ 35) }
+    ensures of { IfOk result (λ _. IfSome (D.files disk.new) (λ files. IsOf (content files (name_of id Items)) window.new)) }
+    ensures len { IfOk result (λ _. IfSome (D.files disk.new) (λ files. len ≡ length (content files (name_of id Items)))) }
     ensures lost { IfErr result (IsLost (D.files disk.old)) }
     ensures others { BothTold (ChangesOnly (name_of id Copy)) (D.files disk.old) (D.files disk.new) }
     ensures cause { IsCauseOf (D.faults disk.old) (D.faults disk.new) (IsErrOf result VolumeFault.DiskFault) }
@@ -121,4 +124,36 @@ pub fn copy_item<D: Disk>(
         seen.taken,
     )?;
     Ok(seen.taken)
+}
+
+/// Copies the items of entries, one behind another, behind the copy's end, and answers where it ends then. Takes no
+/// memory.
+pub fn copy_items<D: Disk>(
+    disk: &mut D,
+    id: u32,
+    window: &mut Window,
+    version: Version,
+    entries: &[IndexEntry],
+    len: u64,
+    end: u64,
+) -> Result<u64, VolumeFault>
+    requires of { IfSome (D.files disk.old) (λ files. IsOf (content files (name_of id Items)) window.old) }
+    requires len { IfSome (D.files disk.old) (λ files. len ≡ length (content files (name_of id Items))) }
+    requires can { IfSome (D.files disk.old) (CanCopy id version end entries.now) }
+    ensures copied { IfOk result (λ now. BothTold (HasCopied id version end entries.now now) (D.files disk.old) (D.files disk.new)) }
+    ensures lost { IfErr result (IsLost (D.files disk.old)) }
+    ensures others { BothTold (ChangesOnly (name_of id Copy)) (D.files disk.old) (D.files disk.new) }
+    ensures cause { IsCauseOf (D.faults disk.old) (D.faults disk.new) (IsErrOf result VolumeFault.DiskFault) }
+    ensures beside { D.beside disk.new ≡ D.beside disk.old }
+{
+    let mut left = entries;
+    let mut reached = end;
+    while let Some((entry, rest)) = left.split_first() {
+        if reached > LAST_END {
+            return Err(no_item(reached));
+        }
+        reached += copy_item(disk, id, window, version, entry, len, reached)?;
+        left = rest;
+    }
+    Ok(reached)
 }
