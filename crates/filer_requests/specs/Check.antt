@@ -1,5 +1,5 @@
 -- The checks of a head, in their order: its content's coding, its path, its query, its length.
-use Rattle.std.specs.Prelude.{nat_lt, Bool, true, false, Option, None, Some, Result, Ok, Err, if◌then◌else◌}
+use Rattle.std.specs.Prelude.{nat_lt, Bool, ◌&&◌, true, false, Option, None, Some, Result, Ok, Err, if◌then◌else◌}
 use Rattle.weed_base.specs.PathFaults.{read_fault}
 use Rattle.weed_base.specs.declared.path_fault.PathFault.{PathFault}
 use Rattle.http_head.specs.declared.head.Head.{Head}
@@ -44,3 +44,13 @@ checked_path None head = checked_row (row_of head) head.body
 -- The row of a head, or the first check that it fails.
 abbrev pub checked : Head → Result Row WishFault
 checked head = if head.encoded then Err Encoded else checked_path (read_fault (place_text head.path)) head
+
+-- A body follows that has bytes, or may have some.
+abbrev pub follows : BodyKind → Bool
+follows Missing = false
+follows (Length count) = nat_lt 0 count
+follows Chunked = true
+
+-- An answer 100 comes before the body: one is awaited, and a body follows.
+abbrev pub awaits_continue : Head → Bool
+awaits_continue head = head.expect && follows head.body

@@ -1,5 +1,5 @@
 ghost use Rattle.std.specs.Prelude.{◌≡◌};
-ghost use Rattle.filer_requests.specs.Check.{lacks_length, is_too_long, checked};
+ghost use Rattle.filer_requests.specs.Check.{lacks_length, is_too_long, checked, follows, awaits_continue};
 
 use crate::fault::WishFault;
 use crate::place::{fault_of_path, place_text};
@@ -48,4 +48,22 @@ pub fn check(alloc: Global, head: &Head) -> Result<Row, WishFault>
         return Err(WishFault::TooLong);
     }
     Ok(row)
+}
+
+fn follows(body: BodyKind) -> bool
+    ensures { result ≡ follows body }
+{
+    match body {
+        BodyKind::Missing => false,
+        BodyKind::Length(count) => count > 0,
+        BodyKind::Chunked => true,
+    }
+}
+
+/// Whether an answer 100 is to be sent before the body is read: one is awaited, and a body follows. Takes no
+/// memory.
+pub fn awaits_continue(head: &Head) -> bool
+    ensures { result ≡ awaits_continue head.now }
+{
+    head.expect && follows(head.body)
 }

@@ -10,6 +10,7 @@ mod read;
 mod row;
 mod wish;
 
+pub use check::awaits_continue;
 pub use fault::WishFault;
 pub use form::boundary_of;
 pub use read::read_wish;
