@@ -1,9 +1,13 @@
 -- Items that are copied one behind another.
-use Rattle.std.proofs.Common.{◌≡◌, ℕ, ◌+◌, ◌*◌, ◌≤◌, ◌<◌, List, [], ◌∷◌, ◌++◌, length, take, drop, Option, Some, None, Ok, append_assoc, refl, sym, ap, subst, ◌∙◌, arith}
-use Rattle.std.specs.Prelude.{IfSome, unwrap_or}
-use Rattle.std.proofs.lemmas.List.{append-nil, length-append, length-drop, length-take, take-append-le}
-use Rattle.weed_base.specs.Files.{BothTold, Files, content}
+use Rattle.std.proofs.Common.{◌≡◌, ℕ, ◌+◌, ◌*◌, ◌≤◌, ◌<◌, List, [], ◌∷◌, ◌++◌, length, take, drop, Option, Some, None, Result, Ok, Err, append_assoc, refl, sym, ap, subst, ◌∙◌, arith}
+use Rattle.std.specs.Prelude.{IfSome, OnOk, unwrap_or}
+use Rattle.std.specs.FinMap.{remove}
+use Rattle.std.specs.Option.{option_map}
+use Rattle.std.proofs.lemmas.List.{append-nil, length-append, length-drop, length-take, take_all, take-append-le}
+use Rattle.weed_base.specs.Files.{BothTold, Files, content, renamed}
+use Rattle.needle.specs.Fields.{AreBytes}
 use Rattle.needle.specs.Reading.{read_at}
+use Rattle.needle.specs.SuperBlock.{superblock_text}
 use Rattle.needle.specs.declared.item.ReadItem.{ReadItem}
 use Rattle.needle.specs.declared.superblock.SuperBlock.{SuperBlock}
 use Rattle.needle.specs.declared.version.Version.{Version}
@@ -11,12 +15,14 @@ use Rattle.needle.proofs.Followed.{read_within}
 use Rattle.needle_index.specs.declared.entry.IndexEntry.{IndexEntry}
 use Rattle.volume_items.specs.declared.file_names.Part.TheVariants.{Items, Copy}
 use Rattle.volume_items.specs.Contents.{HoldsAt, end_of, last_end}
-use Rattle.volume_items.specs.Changes.{ChangesOnly}
+use Rattle.volume_items.specs.Changes.{ChangesOnly, LeavesOthers, made_with}
 use Rattle.volume_items.specs.FileNames.{name_of}
 use Rattle.volume_items.specs.Growing.{Appends, EndsAt}
 use Rattle.volume_items.specs.Vacuuming.{CanCopy, GoesOn, HasCopied, HasCopy, LieAt, LiesAt, MayCopy}
-use Rattle.volume_items.proofs.Appended.{end-appended, end-least, items_appended}
+use Rattle.volume_items.proofs.Appended.{end-appended, end-least, items_appended, none_past}
+use Rattle.volume_items.proofs.Apart.{anew}
 use Rattle.volume_items.proofs.Growing.{content_of}
+use Rattle.volume_items.proofs.Named.{get-insert_other, removed_others}
 use Rattle.volume_items.proofs.Summed.{bytes_append}
 use Rattle.volume_items.proofs.Vacuums.{apart, there}
 
@@ -171,3 +177,33 @@ told_ended (Some a) (Some b) id version start end all left none onward = λ bloc
 pub told_only : (name : List ℕ) (told : Option Files) → BothTold (ChangesOnly name) told told
 told_only name None = tt
 told_only name (Some files) = λ other differs. refl
+
+-- ---- a copy that has no item
+
+has_none : (id : ℕ) (block : SuperBlock) (text : List ℕ) (files : Files) → length block.ttl ≡ 2 → AreBytes text → text ≡ superblock_text block
+    → HasCopy id block 8 [] (made_with (name_of id Copy) text files)
+has_none id block text files two bytes is =
+    let eight : length text ≡ 8 = ap length is ∙ simp length-append (omega (arith, two)) in
+    record {
+      copy = text;
+      there = anew (name_of id Copy) text files;
+      bytes = bytes;
+      front = take_all 8 text (omega (arith, eight)) ∙ is;
+      are = none_past block.version text 8 (omega (arith, eight));
+      length_is = eight;
+      end_is = refl;
+    }
+
+pub told_made : {T E : Type 0} (result : Result T E) (id : ℕ) (block : SuperBlock) (name text : List ℕ) (old new : Option Files) → name ≡ name_of id Copy → length block.ttl ≡ 2 → AreBytes text
+    → text ≡ superblock_text block → OnOk result (new ≡ option_map (made_with name text) old) → OnOk result (IfSome new (HasCopy id block 8 []))
+told_made (Err fault) id block name text old new named two bytes is done = tt
+told_made (Ok value) id block name text None new named two bytes is done = subst (λ o. IfSome o (HasCopy id block 8 [])) (sym done) tt
+told_made (Ok value) id block name text (Some files) new named two bytes is done =
+    subst (λ o. IfSome o (HasCopy id block 8 [])) (sym done)
+    (subst (λ (n : List ℕ). HasCopy id block 8 [] (made_with n text files)) (sym named) (has_none id block text files two bytes is))
+
+-- ---- a copy that takes the items' place
+
+pub renamed_others : (id : ℕ) (copy items : List ℕ) → copy ≡ name_of id Copy → items ≡ name_of id Items → (files : Files) → LeavesOthers id files (renamed copy items files)
+renamed_others id copy items copy_is items_is files = λ other apart.
+    get-insert_other (remove files copy) items (content files copy) other (λ e. apart Items (e ∙ items_is)) ∙ removed_others copy files other (λ e. apart Copy (e ∙ copy_is))

@@ -1,22 +1,24 @@
-ghost use Rattle.std.specs.Prelude.{◌≡◌, ◌+◌, ◌-◌, ◌*◌, ◌≤◌, ◌<◌, ◌++◌, ◌^◌, List, IfOk, IfErr, IfSome, IsErrOf, OnOk, length, take, drop};
+ghost use Rattle.std.specs.Prelude.{◌≡◌, ◌+◌, ◌-◌, ◌*◌, ◌≤◌, ◌<◌, ◌++◌, ◌^◌, List, [], false, IfOk, IfErr, IfSome, IsErrOf, OnOk, length, take, drop};
 ghost use Rattle.weed_base.specs.Told.{HasCause, IsCauseOf};
-ghost use Rattle.weed_base.specs.Files.{BothTold, content};
+ghost use Rattle.std.specs.Option.{option_map};
+ghost use Rattle.weed_base.specs.Files.{BothTold, IsThere, content, renamed};
 ghost use Rattle.needle.specs.declared.item.ReadItem.{ReadItem};
 ghost use Rattle.needle.specs.declared.version.Version.{Version};
 ghost use Rattle.volume_items.specs.Growing.{Appends, EndsAt};
 ghost use Rattle.volume_items.specs.Copying.{IsLost};
-ghost use Rattle.volume_items.specs.Changes.{ChangesOnly};
+ghost use Rattle.volume_items.specs.Changes.{ChangesOnly, LeavesOthers};
 ghost use Rattle.volume_items.specs.FileNames.{name_of};
-ghost use Rattle.volume_items.specs.Vacuuming.{CanCopy, HasCopied, IsDamageAt, LiesAt};
+ghost use Rattle.volume_items.specs.Vacuuming.{CanCopy, HasCopied, HasCopy, IsDamageAt, LiesAt};
 ghost use Rattle.volume_items.specs.Window.{IsOf};
 ghost use Rattle.volume_items.specs.declared.file_names.Part.TheVariants.{Items, Copy};
 
 use crate::copying::copy_bytes;
 use crate::fault::{VolumeFault, no_item};
 use crate::file_names::{Part, file_name};
+use crate::files::make_with;
 use crate::look::{LAST_END, Seen, head_at, judge, look};
 use crate::window::Window;
-use needle::{NeedleFault, Version, padded_len};
+use needle::{NeedleFault, SuperBlock, Version, padded_len};
 use needle_index::IndexEntry;
 use weed_base::{Disk, Failed, FileName};
 
@@ -156,4 +158,31 @@ pub fn copy_items<D: Disk>(
         left = rest;
     }
     Ok(reached)
+}
+
+/// Makes the file of a copy anew: a superblock, and no item yet. Takes no memory.
+pub fn make_copy<D: Disk>(disk: &mut D, id: u32, block: SuperBlock) -> Result<(), Failed>
+    requires { D.MARKS_ONLY ≡ false }
+    ensures made { OnOk result (IfSome (D.files disk.new) (HasCopy id block 8 [])) }
+    ensures others { BothTold (ChangesOnly (name_of id Copy)) (D.files disk.old) (D.files disk.new) }
+    ensures cause { HasCause (D.faults disk.old) (D.faults disk.new) result }
+    ensures beside { D.beside disk.new ≡ D.beside disk.old }
+{
+    make_with(disk, &file_name(id, Part::Copy), &block.write())
+}
+
+/// Puts the copy in the place of the items, and settles before and after. Takes no memory.
+pub fn place_copy<D: Disk>(disk: &mut D, id: u32) -> Result<(), Failed>
+    requires marks { D.MARKS_ONLY ≡ false }
+    requires there { IfSome (D.files disk.old) (IsThere (name_of id Copy)) }
+    ensures placed { OnOk result (D.files disk.new ≡ option_map (renamed (name_of id Copy) (name_of id Items)) (D.files disk.old)) }
+    ensures others { BothTold (LeavesOthers id) (D.files disk.old) (D.files disk.new) }
+    ensures cause { HasCause (D.faults disk.old) (D.faults disk.new) result }
+    ensures beside { D.beside disk.new ≡ D.beside disk.old }
+{
+    let copy = file_name(id, Part::Copy);
+    let items = file_name(id, Part::Items);
+    disk.sync()?;
+    disk.rename(&copy, &items)?;
+    disk.sync()
 }

@@ -19,7 +19,7 @@ pub use fault::{VolumeFault, no_item};
 pub use file_names::{Part, file_name};
 pub use files::{append_piece, make_settled, make_with, remove_settled};
 pub use indexing::{IndexText, index_text};
-pub use item_copy::copy_items;
+pub use item_copy::{copy_items, make_copy, place_copy};
 pub use laws::{
     a_text_has_one_list_of_items, a_vacuum_keeps_the_contents,
     an_index_in_order_leads_to_the_living, an_index_leads_to_the_contents,
