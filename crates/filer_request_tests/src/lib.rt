@@ -1,0 +1,5 @@
+//! What heads ask of a filer.
+#![tactic(auto)]
+
+#[cfg(test)]
+mod tests;
