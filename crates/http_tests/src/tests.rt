@@ -1,1 +1,2 @@
+mod bodies;
 mod heads;
