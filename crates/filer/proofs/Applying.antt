@@ -1,7 +1,7 @@
 -- What a command leaves of a filer, from what its calls leave.
-use Rattle.std.proofs.Common.{◌≡◌, ℕ, zero, suc, ◌+◌, ◌≤◌, List, [], ◌∷◌, ◌++◌, length, true, false, Option, Some, None, Result, Ok, Err, refl, sym, ap, ◌∙◌, subst, arith, inl, inr}
+use Rattle.std.proofs.Common.{◌≡◌, ℕ, ◌≤◌, List, [], ◌∷◌, ◌++◌, length, true, false, Option, Some, None, Result, Ok, Err, refl, sym, ap, ◌∙◌, subst, arith, inl, inr}
 use Rattle.std.specs.Prelude.{IfSome, IsSomeAnd, OnOk, OnErr}
-use Rattle.std.specs.Result.{is_ok, is_err}
+use Rattle.std.specs.Result.{is_err}
 use Rattle.std.specs.Option.{option_map}
 use Rattle.weed_base.specs.Files.{Files, BothTold}
 use Rattle.weed_base.specs.DiskCalls.{Acts}
@@ -18,19 +18,20 @@ use Rattle.meta_log.specs.LogText.{segment_name, ChangesOnly, IsAllowed, IsLogTe
 use Rattle.meta_log.specs.Held.{HoldsPayloads, TellsText}
 use Rattle.meta_log.specs.Images.{ImagesHoldRecords}
 use Rattle.meta_log.specs.Kept.{front_of, HoldsRecords, IsEitherLog, TellsRecords, TellsEitherLog}
-use Rattle.meta_log.specs.Records.{ReadsAs, front_of_records}
+use Rattle.meta_log.specs.Records.{ReadsAs}
 use Rattle.meta_log.specs.declared.meta_log.MetaLog.{MetaLog}
 use Rattle.meta_log.specs.declared.stem.Stem.TheVariants.{Log}
 use Rattle.meta_log.proofs.Unique.{text_unique}
-use Rattle.name_core.specs.declared.command.Command.{Command}
 use Rattle.name_core.specs.declared.command.PlanFault.{PlanFault}
 use Rattle.name_core.specs.declared.command.PlanFault.TheVariants as faults
-use Rattle.name_core.specs.Plan.{Planned, Plans, Recorded, Nothing, Refused, plan_of}
+use Rattle.name_plans.specs.declared.command.Command.{Command}
+use Rattle.name_plans.specs.Planning.{plan_of}
+use Rattle.name_plans.specs.Refusing.{Comes}
 use Rattle.filer.specs.Faults.{apply_fault_of_plan}
 use Rattle.filer.specs.declared.receipt.Receipt.{Receipt}
 use Rattle.filer.specs.declared.fault.ApplyFault.{ApplyFault}
 use Rattle.filer.specs.declared.fault.ApplyFault.TheVariants as apply
-use Rattle.filer.specs.Plans.{front_behind, receipt_of, IsPlan}
+use Rattle.filer.specs.Plans.{Planned, front_behind, receipt_of, receipt_of_none, IsPlan}
 use Rattle.filer.specs.State.{IsFiled, HoldsState, StaysPublished}
 use Rattle.filer.specs.Applied.{Adds, Applies, Rests, Publishes, Strands, Tears, LeavesEither, IsSettled}
 use Rattle.filer.specs.declared.state.FilerState.{FilerState}
@@ -184,17 +185,24 @@ rest_held map old new (Some files) log names published held = (held.0, rest_file
 
 -- The plan of a command that its keeper or memory refused, or that it is to be.
 pub plan_failed : {K O S D : Type 0} {o : Ghosts O S} (disk : DiskGhosts D) (map : K → Option Namespace) (told : Option Namespace) (command : Command) (clock last : ℕ) (old new : FilerState K O S o) (before now : D)
-    (fault : PlanFault) → IfSome told (λ names. Plans (plan_of names command clock last) (Err fault)) → Rests disk map old new before now
+    (fault : PlanFault) → IfSome told (λ names. Comes (plan_of names command clock last) (Err fault)) → Rests disk map old new before now
     → (plan : Planned) × IsPlan told command clock last plan × Applies disk map plan old new before now (Err (apply_fault_of_plan fault))
-plan_failed disk map None command clock last old new before now (faults.Refused refusal) plans rests = (Refused refusal, tt, (refl, rests))
-plan_failed disk map None command clock last old new before now faults.KeeperFault plans rests = (Nothing, tt, inl rests)
-plan_failed disk map None command clock last old new before now faults.Memory plans rests = (Nothing, tt, rests)
+plan_failed disk map None command clock last old new before now (faults.Refused refusal) plans rests = (Err refusal, tt, (refl, rests))
+plan_failed disk map None command clock last old new before now faults.KeeperFault plans rests = (Ok None, tt, inl rests)
+plan_failed disk map None command clock last old new before now faults.Memory plans rests = (Ok None, tt, rests)
 plan_failed disk map (Some names) command clock last old new before now (faults.Refused refusal) plans rests = (plan_of names command clock last, refl, (plans, rests))
 plan_failed disk map (Some names) command clock last old new before now faults.KeeperFault plans rests = (plan_of names command clock last, refl, inl rests)
 plan_failed disk map (Some names) command clock last old new before now faults.Memory plans rests = (plan_of names command clock last, refl, rests)
 
+-- The plan by which nothing changes.
+pub plan_nothing : {K O S D : Type 0} {o : Ghosts O S} (disk : DiskGhosts D) (map : K → Option Namespace) (told : Option Namespace) (command : Command) (clock last : ℕ) (old new : FilerState K O S o) (before now : D)
+    (receipt : Receipt) → IfSome told (λ names. Comes (plan_of names command clock last) (Ok None)) → receipt ≡ receipt_of_none old.published → Rests disk map old new before now
+    → (plan : Planned) × IsPlan told command clock last plan × Applies disk map plan old new before now (Ok receipt)
+plan_nothing disk map None command clock last old new before now receipt plans is rests = (Ok None, tt, inl (refl, is, rests))
+plan_nothing disk map (Some names) command clock last old new before now receipt plans is rests = (Ok None, sym plans, inl (refl, is, rests))
+
 -- The plan that is a record.
-plan_made : (told : Option Namespace) (command : Command) (clock last : ℕ) (made : Record) → IfSome told (λ names. Plans (plan_of names command clock last) (Ok (Some made))) → IsPlan told command clock last (Recorded made)
+plan_made : (told : Option Namespace) (command : Command) (clock last : ℕ) (made : Record) → IfSome told (λ names. Comes (plan_of names command clock last) (Ok (Some made))) → IsPlan told command clock last (Ok (Some made))
 plan_made None command clock last made plans = tt
 plan_made (Some names) command clock last made plans = sym plans
 
@@ -214,10 +222,10 @@ module _ {K O S D : Type 0} {o : Ghosts O S} (disk : DiskGhosts D) (map : K → 
 
   -- What adding a planned record leaves, from before its plan on.
   pub added : (told : Option Namespace) (command : Command) (clock last : ℕ) (made : Record) (result : Result Receipt ApplyFault)
-      → IfSome told (λ names. Plans (plan_of names command clock last) (Ok (Some made))) → Adds disk map made mid new before now result
+      → IfSome told (λ names. Comes (plan_of names command clock last) (Ok (Some made))) → Adds disk map made mid new before now result
       → (plan : Planned) × IsPlan told command clock last plan × Applies disk map plan old new before now result
   added told command clock last made (Ok receipt) plans (is, publishes) = (
-    Recorded made,
+    Ok (Some made),
     plan_made told command clock last made plans,
     inr (
       made,
@@ -235,9 +243,9 @@ module _ {K O S D : Type 0} {o : Ghosts O S} (disk : DiskGhosts D) (map : K → 
     ),
   )
   added told command clock last made (Err (apply.Refused refusal)) plans adds = absurd adds
-  added told command clock last made (Err apply.KeeperFault) plans (inl rests) = (Recorded made, plan_made told command clock last made plans, inl (rests_both rests))
+  added told command clock last made (Err apply.KeeperFault) plans (inl rests) = (Ok (Some made), plan_made told command clock last made plans, inl (rests_both rests))
   added told command clock last made (Err apply.KeeperFault) plans (inr strands) = (
-    Recorded made,
+    Ok (Some made),
     plan_made told command clock last made plans,
     inr (
       made,
@@ -251,9 +259,9 @@ module _ {K O S D : Type 0} {o : Ghosts O S} (disk : DiskGhosts D) (map : K → 
     ),
   )
   added told command clock last made (Err (apply.Broken tick)) plans adds = absurd adds
-  added told command clock last made (Err apply.Memory) plans rests = (Recorded made, plan_made told command clock last made plans, rests_both rests)
+  added told command clock last made (Err apply.Memory) plans rests = (Ok (Some made), plan_made told command clock last made plans, rests_both rests)
   added told command clock last made (Err apply.DiskFault) plans tears = (
-    Recorded made,
+    Ok (Some made),
     plan_made told command clock last made plans,
     (
       made,

@@ -1,5 +1,5 @@
 -- What a command leaves of a filer's state and of its disk, by its plan and its answer.
-use Rattle.std.specs.Prelude.{◌≡◌, ◌⊎◌, ℕ, List, [], ◌∷◌, ◌++◌, Option, Some, IfSome, IsSomeAnd}
+use Rattle.std.specs.Prelude.{◌≡◌, ◌⊎◌, ℕ, List, [], ◌∷◌, ◌++◌, Option, Some, None, IsSomeAnd}
 use Rattle.std.specs.Option.{option_map}
 use Rattle.std.specs.declared.result.Result.{Result}
 use Rattle.std.specs.declared.result.Result.TheVariants.{Ok, Err}
@@ -10,11 +10,10 @@ use Rattle.log_buffer.specs.declared.outlet.Outlet.{Ghosts}
 use Rattle.name_core.specs.declared.change.Record.{Record}
 use Rattle.name_core.specs.Namespace.{Namespace}
 use Rattle.name_core.specs.Log.{after_record}
-use Rattle.name_core.specs.Plan.{Planned, Recorded, Nothing, Refused}
 use Rattle.meta_log.specs.Images.{ImagesHoldRecords}
 use Rattle.meta_log.specs.Kept.{front_of, HoldsRecords, IsEitherLog}
 use Rattle.meta_log.specs.Records.{ReadsAs}
-use Rattle.filer.specs.Plans.{receipt_of, receipt_of_none, front_behind}
+use Rattle.filer.specs.Plans.{Planned, receipt_of, receipt_of_none, front_behind}
 use Rattle.filer.specs.State.{IsFiled, StaysPublished}
 use Rattle.filer.specs.declared.fault.ApplyFault.{ApplyFault}
 use Rattle.filer.specs.declared.fault.ApplyFault.TheVariants as fault
@@ -78,14 +77,14 @@ module _ {K O S D : Type 0} {o : Ghosts O S} (disk : DiskGhosts D) (map : K → 
   -- What a command of this plan leaves, by its answer.
   abbrev pub Applies : Planned → FilerState K O S o → FilerState K O S o → D → D → Result Receipt ApplyFault → Type 0
   Applies plan old new before now (Ok receipt) =
-      ((plan ≡ Nothing) × (receipt ≡ receipt_of_none old.published) × Rests old new before now)
-      ⊎ ((made : Record) × (plan ≡ Recorded made) × (receipt ≡ receipt_of made old.published) × Publishes made old new before now)
-  Applies plan old new before now (Err (fault.Refused refusal)) = (plan ≡ Refused refusal) × Rests old new before now
+      ((plan ≡ Ok None) × (receipt ≡ receipt_of_none old.published) × Rests old new before now)
+      ⊎ ((made : Record) × (plan ≡ Ok (Some made)) × (receipt ≡ receipt_of made old.published) × Publishes made old new before now)
+  Applies plan old new before now (Err (fault.Refused refusal)) = (plan ≡ Err refusal) × Rests old new before now
   Applies plan old new before now (Err fault.KeeperFault) =
-      Rests old new before now ⊎ ((made : Record) × (plan ≡ Recorded made) × Strands made old new before now)
+      Rests old new before now ⊎ ((made : Record) × (plan ≡ Ok (Some made)) × Strands made old new before now)
   Applies plan old new before now (Err (fault.Broken tick)) = ⊥
   Applies plan old new before now (Err fault.Memory) = Rests old new before now
-  Applies plan old new before now (Err fault.DiskFault) = (made : Record) × (plan ≡ Recorded made) × Tears made old new before now
+  Applies plan old new before now (Err fault.DiskFault) = (made : Record) × (plan ≡ Ok (Some made)) × Tears made old new before now
 
 -- An answer after which a filer isn't broken, where it wasn't.
 abbrev pub IsWhole : Result Receipt ApplyFault → Type 0

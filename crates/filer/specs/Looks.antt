@@ -2,7 +2,6 @@
 use Rattle.std.specs.Prelude.{◌≡◌, ◌≢◌, ℕ, List, [], ◌∷◌, Option, None, Some}
 use Rattle.std.specs.FinMap.{get}
 use Rattle.entry.specs.declared.entry.Entry.{Entry}
-use Rattle.entry.specs.declared.entry.Kind.{Kind}
 use Rattle.entry.specs.declared.entry.Kind.TheVariants as kind
 use Rattle.entry.specs.Entry.{IsValid}
 use Rattle.name_core.specs.Namespace.{Namespace}

@@ -9,7 +9,8 @@ use entry::Entry;
 use filer_keeper::Keeper;
 use log_buffer::Outlet;
 use meta_log::Front;
-use name_core::{Command, directory_made_at};
+use name_core::directory_made_at;
+use name_plans::Command;
 use std::alloc::Global;
 use weed_base::{Disk, Items, LogText, Name, Path};
 
@@ -31,12 +32,12 @@ impl<K: Keeper, O: Outlet> Filer<K, O> {
     ghost use Rattle.entry.specs.Entry.{IsValid};
     ghost use Rattle.name_core.specs.declared.change.Record.{Record};
     ghost use Rattle.name_core.specs.Log.{end_of_time};
-    ghost use Rattle.name_core.specs.Plan.{Planned};
+    ghost use Rattle.name_plans.specs.Planning.{IsCommand};
     ghost use Rattle.meta_log.specs.declared.stem.Stem.TheVariants.{Log};
     ghost use Rattle.meta_log.specs.Held.{gate_of};
     ghost use Rattle.meta_log.specs.Kept.{HoldsMetaLog, IsPast, ReadsAfter, BreaksAfter};
     ghost use Rattle.meta_log.specs.LogText.{segment_name};
-    ghost use Rattle.filer.specs.Plans.{IsPlan};
+    ghost use Rattle.filer.specs.Plans.{IsPlan, Planned};
     ghost use Rattle.filer.specs.Faults.{IfDamaged, IsOfNames};
     ghost use Rattle.filer.specs.Looks.{entry_at, root_directory, IsListing, Lists};
     ghost use Rattle.filer.specs.State.{keeper_of, log_of, published_of, HoldsState};
@@ -104,6 +105,7 @@ impl<K: Keeper, O: Outlet> Filer<K, O> {
         clock: u64,
     ) -> Result<Receipt, ApplyFault>
         requires held { broken_of self.old ≡ None → (records : List Record) × HoldsState K.Names.map (D.files disk.old) (state_of self.old) records }
+        requires command { IsCommand command }
         ensures applied { broken_of self.old ≡ None → (plan : Planned)
             × IsPlan (K.Names.map (keeper_of (state_of self.old))) command clock (published_of (state_of self.old)).time plan
             × Applies D.Disk K.Names.map plan (state_of self.old) (state_of self.new) disk.old disk.new result }

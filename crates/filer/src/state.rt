@@ -8,7 +8,8 @@ use crate::room::reserve_for;
 use filer_keeper::Keeper;
 use log_buffer::Outlet;
 use meta_log::{Front, GateText, MetaLog};
-use name_core::{Command, Record, plan};
+use name_core::Record;
+use name_plans::{Command, plan};
 use records::write_record;
 use std::alloc::Global;
 use weed_base::Disk;
@@ -32,12 +33,12 @@ impl<K: Keeper, O: Outlet> FilerState<K, O> {
     ghost use Rattle.weed_base.specs.Told.{IsCauseOf};
     ghost use Rattle.filer_keeper.specs.Commit.{put_count};
     ghost use Rattle.name_core.specs.declared.change.Record.{Record as RecordValue};
-    ghost use Rattle.name_core.specs.Plan.{Planned};
     ghost use Rattle.name_core.specs.RecordText.{CanBeWritten};
+    ghost use Rattle.name_plans.specs.Planning.{IsCommand};
     ghost use Rattle.records.specs.RecordText.{record_text};
     ghost use Rattle.meta_log.specs.Records.{ReadsAs};
     ghost use Rattle.filer.specs.Faults.{IsMemoryOrKeeper};
-    ghost use Rattle.filer.specs.Plans.{IsPlan};
+    ghost use Rattle.filer.specs.Plans.{IsPlan, Planned};
     ghost use Rattle.filer.specs.State.{keeper_of, log_of, outlet_of, published_of, HoldsState, StaysPublished};
     ghost use Rattle.filer.specs.Applied.{Adds, Applies, IsWhole};
 
@@ -52,6 +53,7 @@ impl<K: Keeper, O: Outlet> FilerState<K, O> {
         requires level { front_of (log_of self.old) ≡ published_of self.old }
         requires idle { O.offered (outlet_of self.old) ≡ None }
         requires held { (records : List RecordValue) × HoldsState K.Names.map (D.files disk.old) self.old records }
+        requires command { IsCommand command.now }
         ensures applied { (plan : Planned) × IsPlan (K.Names.map (keeper_of self.old)) command.now clock (published_of self.old).time plan
             × Applies D.Disk K.Names.map plan self.old self.new disk.old disk.new result }
         ensures level { IsWhole result → front_of (log_of self.new) ≡ published_of self.new }

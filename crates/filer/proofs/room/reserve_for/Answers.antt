@@ -1,4 +1,4 @@
-use Rattle.std.proofs.Common.{◌≡◌, ◌≤◌, ℕ, length, List, arith, ap, ◌∙◌}
+use Rattle.std.proofs.Common.{length, List, arith, ap}
 use Rattle.std.proofs.lemmas.Result.{on_ok_weaker}
 use Rattle.name_core.specs.declared.change.Change.{Change}
 use Rattle.filer.proofs.Applying.{put_count-few}

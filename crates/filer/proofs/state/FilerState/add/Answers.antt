@@ -1,4 +1,4 @@
-use Rattle.std.proofs.Common.{◌≡◌, ◌∙◌, true, false, ap, sym, refl, inr, Some, ◌+◌}
+use Rattle.std.proofs.Common.{◌≡◌, ◌∙◌, true, false, ap, sym, inr, Some}
 use Rattle.std.specs.Result.{is_err}
 use Rattle.std.specs.Option.{option_map}
 use Rattle.name_core.specs.Log.{after_record}

@@ -1,10 +1,10 @@
-use Rattle.std.proofs.Common.{◌≡◌, refl, subst, Option, Ok}
+use Rattle.std.proofs.Common.{refl, subst, Option, Ok}
 use Rattle.std.specs.Prelude.{IfSome}
 use Rattle.name_core.specs.declared.change.Record.{Record}
-use Rattle.name_core.specs.Plan.{Plans, plan_of}
+use Rattle.name_plans.specs.Planning.{plan_of}
+use Rattle.name_plans.specs.Refusing.{Comes}
 use Rattle.std.proofs.lemmas.Result.{err_from_is_err_and}
-use Rattle.records.proofs.RecordSizes.{directories_are_short}
-use Rattle.filer.proofs.Applying.{added, plan_failed, rest_held}
+use Rattle.filer.proofs.Applying.{added, plan_failed, plan_nothing, rest_held}
 use Rattle.filer.proofs.state.FilerState.make.Goals as goal
 
 pub returns-in_err-made-clause-applied : goal.returns-in_err-made-clause-applied
@@ -26,9 +26,14 @@ pub returns-in-Some-clause-applied : goal.returns-in-Some-clause-applied
 returns-in-Some-clause-applied g c =
     let names = g.K.Names.map c.args.self.now.keeper in
     let last = c.args.self.now.published.time in
-    let planned = subst (λ (found : Option Record). IfSome names (λ told. Plans (plan_of told c.args.command.now c.args.clock last) (Ok found))) c.in-Some.is c.in_ok-made.ensures.planned in
+    let planned = subst (λ (found : Option Record). IfSome names (λ told. Comes (plan_of told c.args.command.now c.args.clock last) (Ok found))) c.in-Some.is c.in_ok-made.ensures.planned in
     added g.D.Disk g.K.Names.map c.args.self.now _ c.add.new.self c.args.disk.now c.add.new.disk refl c.plan.ensures.map refl refl
     names c.args.command.now c.args.clock last c.in-Some.made c.add.result planned c.add.ensures.added
 
-pub add-requires-clause-short : goal.add-requires-clause-short
-add-requires-clause-short g c = directories_are_short c.in-Some.made (rw c.in-Some.is at c.in_ok-made.ensures.directories)
+pub returns-in-None-clause-applied : goal.returns-in-None-clause-applied
+returns-in-None-clause-applied g c =
+    let names = g.K.Names.map c.args.self.now.keeper in
+    let last = c.args.self.now.published.time in
+    let planned = subst (λ (found : Option Record). IfSome names (λ told. Comes (plan_of told c.args.command.now c.args.clock last) (Ok found))) c.in-None.is c.in_ok-made.ensures.planned in
+    plan_nothing g.D.Disk g.K.Names.map names c.args.command.now c.args.clock last c.args.self.now _ c.args.disk.now c.args.disk.now _ planned refl
+    (record { disk_is = refl; log = refl; names = c.plan.ensures.map; published = record { list = λ list stands. stands; front = refl } })
