@@ -1,0 +1,2 @@
+pub mod FidText
+pub mod LineLemmas
